@@ -1,4 +1,4 @@
-// The words of the protocol: which message, which side, and why a step is refused.
+// The words of the protocol: which message, and why a step is refused.
 ghost use mathlib.Core.Path.{_≡_};
 ghost use Rattle.ratchet.specs.Numbers.{number};
 ghost use Rattle.ratchet.specs.Same.{sameMark, sameMessage};
@@ -34,13 +34,6 @@ impl Message {
     {
         self.mark.is(other.mark) && self.before == other.before
     }
-}
-
-// The two sides: the second draws key 0 beforehand, the first draws key 1.
-#[derive(Clone, Copy)]
-pub enum Who {
-    First,
-    Second,
 }
 
 // Why a step is refused; the number of each is what programs print.

@@ -1,3 +1,5 @@
 pub mod World
 pub mod Rule
 pub mod Cases
+pub mod Secret
+pub mod Laws

@@ -1,2 +1,3 @@
+pub mod Finds
 mod Slots
 mod Kept

@@ -4,7 +4,6 @@ use mathlib.Core.Bool.{Bool, true, false, cond, _&&_, _||_}
 use mathlib.Core.List.{List, [], _∷_, _++_}
 use Prim.Native.Nat.{ℕ, zero, suc, _+_, _-_, _<_, _≤_}
 use native.Mathlib.Omega.{arith}
-use native.Mathlib.Numerals.{add-one}
 use native.Mathlib.Nat.{zero-add}
 use lib.Dec.{eqb}
 use lib.ListN.{length, take, drop, getD, set, replicate}
@@ -14,7 +13,6 @@ use lib.Seq.{drop-cons}
 use borrow.Rule.Slice.PartMut.{putMid}
 use Rattle.std.proofs.shelf.Parts.{putMid-paste}
 use Rattle.std.proofs.shelf.Lists.{drop-drop, drop-replicate, append-nil, drop-all, take-all, take-rest, set-at, take-at, drop-at, append-assoc, length-append, length-take, length-drop, length-take-le}
-use Rattle.std.proofs.shelf.Tests.{or-parts, or-from, or-left, or-right}
 use Rattle.ratchet.specs.declared.types.Mark.{Mark}
 use Rattle.ratchet.specs.Same.{sameMark}
 use Rattle.ratchet.specs.State.{has, without, places}
@@ -42,31 +40,18 @@ put-more xs at l f n i h k =
     let m = getD-places l f n i d k in
     let e = paste-more xs at (places l f n) i d h (omega (arith, length-places l f n)) in cc
 
--- a search among marks
-pub has-more : (m : Mark) (xs : List Mark) (i : ℕ) (d : Mark) → i < length xs → has m (take i xs) ≡ false →
-  sameMark (getD xs i d) m ≡ false → has m (take (i + 1) xs) ≡ false
+-- a search among marks is one for the test `sameMark`
+pub has-step : (m x : Mark) (xs : List Mark) → has m (x ∷ xs) ≡ (sameMark x m || has m xs)
 unfolding has
-has-more m [] i d h none here = absurd (omega arith)
-has-more m (x ∷ xs) zero d h none here = or-from (sameMark x m) false here refl
-has-more m (x ∷ xs) (suc i) d h none here =
-    let p = or-parts (sameMark x m) (has m (take i xs)) none in
-    let r = has-more m xs i d (omega arith) (p .1) here in
-    let r′ = rw add-one at r in
-    rw add-one (or-from (sameMark x m) (has m (take (suc i) xs)) (p .0) r′)
+has-step m x xs = refl
 
-pub has-none : (m : Mark) (xs : List Mark) (i : ℕ) → length xs ≤ i → has m (take i xs) ≡ false → has m xs ≡ false
-has-none m xs i h none = let e = take-all i xs h in cc
+pub has-nil : (m : Mark) → has m [] ≡ false
+unfolding has
+has-nil m = refl
 
-pub has-found : (m : Mark) (xs : List Mark) (i : ℕ) (d : Mark) → i < length xs → has m (take i xs) ≡ false →
-  sameMark (getD xs i d) m ≡ true → (has m xs ≡ true) × (without m xs ≡ removed xs i)
-unfolding has without
-has-found m [] i d h none here = absurd (omega arith)
-has-found m (x ∷ xs) zero d h none here = (or-left (sameMark x m) (has m xs) here, cc)
-has-found m (x ∷ xs) (suc i) d h none here =
-    let p = or-parts (sameMark x m) (has m (take i xs)) none in
-    let r = has-found m xs i d (omega arith) (p .1) here in
-    let q = p .0 in let t = r .1 in
-    (or-right (sameMark x m) (has m xs) (r .0), cc)
+pub without-step : (m x : Mark) (xs : List Mark) → without m (x ∷ xs) ≡ cond (sameMark x m) xs (x ∷ without m xs)
+unfolding without
+without-step m x xs = refl
 
 -- one mark taken out of its place: those behind it move down, and the last is overwritten
 module _ (xs : List Mark) (i : ℕ) (h : i < length xs) (b : Mark) where

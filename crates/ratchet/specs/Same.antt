@@ -10,3 +10,7 @@ sameMark a b = eqb (a .link) (b .link) && eqb (a .place) (b .place)
 
 abbrev pub sameMessage : Message → Message → Bool
 sameMessage a b = sameMark (a .mark) (b .mark) && eqb (a .before) (b .before)
+
+-- what stands past the end of a list of messages
+abbrev pub noMessage : Message
+noMessage = record { mark = record { link = 0; place = 0 }; before = 0 }

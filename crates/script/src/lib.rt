@@ -1,0 +1,4 @@
+// Rehearsals: scripts of what happens to two sides, and a player of them.
+pub mod types;
+mod searches;
+pub mod device;

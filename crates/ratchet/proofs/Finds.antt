@@ -39,6 +39,12 @@ module _ {A : Type 0} (f : A → Bool) (g : List A → Bool) (none : g [] ≡ fa
       let r = taken-out w step xs i d (omega arith) (p .1) here in
       step x xs ∙ (cond-false (f x) xs (x ∷ w xs) (p .0) ∙ ap (λ (l : List A). x ∷ l) r)
 
+  pub left-alone : (w : List A → List A) → w [] ≡ [] → ((x : A) (xs : List A) → w (x ∷ xs) ≡ cond (f x) xs (x ∷ w xs)) → (xs : List A) → g xs ≡ false → w xs ≡ xs
+  left-alone w nil step [] e = nil
+  left-alone w nil step (x ∷ xs) e =
+      let p = or-parts (f x) (g xs) (sym (more x xs) ∙ e) in
+      step x xs ∙ (cond-false (f x) xs (x ∷ w xs) (p .0) ∙ ap (λ (l : List A). x ∷ l) (left-alone w nil step xs (p .1)))
+
   -- v is a value of the first that passes
   module _ {B : Type 0} (u : A → B) (v : List A → B) (step : (x : A) (xs : List A) → v (x ∷ xs) ≡ cond (f x) (u x) (v xs)) where
     pub value-found : (xs : List A) (i : ℕ) (d : A) → i < length xs → g (take i xs) ≡ false → f (getD xs i d) ≡ true → v xs ≡ u (getD xs i d)

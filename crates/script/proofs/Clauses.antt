@@ -8,7 +8,8 @@ use Rattle.ratchet.specs.declared.types.Message.{Message}
 use Rattle.ratchet.specs.Same.{sameMessage}
 use Rattle.runs.specs.World.{among}
 use Rattle.script.specs.declared.types.Stop.{Stop}
-use Rattle.script.specs.Plan.{Due, goes, dueOf, due, kept}
+use Rattle.script.specs.declared.types.Due.the-variants.{Goes}
+use Rattle.script.specs.Plan.{dueOf, due, kept}
 
 pub among-nil : (m : Message) → among m [] ≡ false
 unfolding among
@@ -18,13 +19,17 @@ pub among-step : (m x : Message) (xs : List Message) → among m (x ∷ xs) ≡ 
 unfolding among
 among-step m x xs = refl
 
-pub due-nil : (n : ℕ) → due n [] ≡ goes
+pub due-nil : (n : ℕ) → due n [] ≡ Goes
 unfolding due
 due-nil n = refl
 
 pub due-step : (n : ℕ) (x : Stop) (xs : List Stop) → due n (x ∷ xs) ≡ cond (eqb (x .write) n) (dueOf x) (due n xs)
 unfolding due
 due-step n x xs = refl
+
+pub kept-nil : (n : ℕ) → kept n [] ≡ []
+unfolding kept
+kept-nil n = refl
 
 pub kept-step : (n : ℕ) (x : Stop) (xs : List Stop) → kept n (x ∷ xs) ≡ cond (eqb (x .write) n) xs (x ∷ kept n xs)
 unfolding kept

@@ -2,3 +2,4 @@
 pub mod types;
 mod searches;
 pub mod device;
+pub mod devices;

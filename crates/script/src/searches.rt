@@ -5,7 +5,8 @@ ghost use lib.ListN.{length, getD};
 ghost use Rattle.std.specs.Options.{Cases as BySome};
 ghost use Rattle.std.specs.shelf.Lists.{removed};
 ghost use Rattle.runs.specs.World.{among};
-ghost use Rattle.script.specs.Plan.{due, goes, dueOf, kept, noStop};
+ghost use Rattle.script.specs.Plan.{due, dueOf, kept, noStop};
+ghost use Rattle.script.specs.declared.types.Due.the-variants.{Goes};
 use ratchet::types::Message;
 use crate::types::Stop;
 
@@ -23,7 +24,7 @@ pub fn holds(messages: &[Message], message: Message) -> bool
 
 // Where the stop that is planned for this write is among some, if there is one.
 pub fn position(stops: &[Stop], write: u32) -> Option<usize>
-    ensures { λ r. ⌜ BySome r (due write (now (stops .entry)) ≡ goes) (λ i. (i < length (now (stops .entry))) × (due write (now (stops .entry)) ≡ dueOf (getD (now (stops .entry)) i noStop)) × (kept write (now (stops .entry)) ≡ removed (now (stops .entry)) i)) ⌝ }
+    ensures { λ r. ⌜ BySome r ((due write (now (stops .entry)) ≡ Goes) × (kept write (now (stops .entry)) ≡ now (stops .entry))) (λ i. (i < length (now (stops .entry))) × (due write (now (stops .entry)) ≡ dueOf (getD (now (stops .entry)) i noStop)) × (kept write (now (stops .entry)) ≡ removed (now (stops .entry)) i)) ⌝ }
 {
     for (i, x) in stops.iter().enumerate() {
         if x.write == write {

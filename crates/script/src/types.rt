@@ -1,12 +1,22 @@
-// The words of a rehearsal: planned stops, and what its steps come to.
+// The words of a rehearsal: planned stops, what its steps come to, and what can go wrong with it.
 use ratchet::types::Message;
 use ratchet::types::Refusal;
+use std::alloc::AllocError;
+use std::alloc::Refused as Unplaced;
 
 // A planned stop: before or after the write of this number, counted from 1.
 #[derive(Clone, Copy)]
 pub struct Stop {
     pub write: u32,
     pub after: bool,
+}
+
+// What a plan says of one write.
+#[derive(Clone, Copy)]
+pub enum Due {
+    Goes,
+    StopsBefore,
+    StopsAfter,
 }
 
 // What a side's send comes to in a rehearsal.
@@ -31,4 +41,25 @@ pub enum Taking {
     // the side stopped before its write
     Stopped,
     Refused(Refusal),
+}
+
+// Why a rehearsal can't go on, though its script is good.
+#[derive(Clone, Copy)]
+pub enum Fault {
+    // there is no memory
+    Memory,
+    // a side has written 4,294,967,295 pages
+    TooLong,
+}
+
+pub impl From<AllocError> for Fault as FaultFromAlloc {
+    fn from(_e: AllocError) -> Fault {
+        Fault::Memory
+    }
+}
+
+pub impl<T: Drop> From<Unplaced<T>> for Fault as FaultFromUnplaced {
+    fn from(_e: Unplaced<T>) -> Fault {
+        Fault::Memory
+    }
 }

@@ -6,7 +6,7 @@ use Rattle.std.proofs.shelf.Tests.{eq-eqb, ne-eqb}
 use Rattle.ratchet.proofs.Finds as finds
 use Rattle.script.specs.declared.types.Stop.{Stop}
 use Rattle.script.specs.Plan.{due, dueOf, kept, noStop}
-use Rattle.script.proofs.Clauses.{due-nil, due-step, kept-step, planned, planned-nil, planned-step}
+use Rattle.script.proofs.Clauses.{due-nil, due-step, kept-nil, kept-step, planned, planned-nil, planned-step}
 use Rattle.script.proofs.searches.position.Needs as need
 
 pub loop-i-holds : need.loop-i-holds
@@ -34,4 +34,5 @@ returns c =
     let n = c .args .write in
     let test = λ (x : Stop). eqb (x .write) n in
     let all = finds.never test (planned n) (planned-nil n) (planned-step n) (c .args .stops .now) (c .loop-i .i) (c .loop-i-test .left) (c .loop-i .inv) in
-    finds.value-never test (planned n) (planned-nil n) (planned-step n) dueOf (due n) (due-step n) (c .args .stops .now) all ∙ due-nil n
+    (finds.value-never test (planned n) (planned-nil n) (planned-step n) dueOf (due n) (due-step n) (c .args .stops .now) all ∙ due-nil n,
+      finds.left-alone test (planned n) (planned-nil n) (planned-step n) (kept n) (kept-nil n) (kept-step n) (c .args .stops .now) all)

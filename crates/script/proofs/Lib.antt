@@ -1,1 +1,2 @@
 mod Clauses
+mod Deliveries

@@ -1,12 +1,15 @@
 -- Planned stops: which of them is due at a write, and after how many effects a step then stops.
 -- Assumes nothing.
 use mathlib.Core.Bool.{Bool, true, false, cond}
-use mathlib.Core.List.{List, [], _∷_}
-use Prim.Native.Nat.{ℕ, _+_, _-_}
+use mathlib.Core.Path.{_≡_}
+use mathlib.Core.List.{List, [], _∷_, _++_}
+use Prim.Native.Nat.{ℕ, _+_, _-_, _<_, _≤_}
 use lib.Dec.{eqb}
 use lib.ListN.{length}
 use Rattle.runs.specs.World.{Effect, Party, performed}
 use Rattle.script.specs.declared.types.Stop.{Stop}
+use Rattle.script.specs.declared.types.Planning.{Planning}
+use Rattle.script.specs.declared.types.Planning.the-variants.{Set, NoSuchWrite, Past, SetAlready}
 use Rattle.script.specs.declared.types.Due.{Due}
 use Rattle.script.specs.declared.types.Due.the-variants.{Goes, StopsBefore, StopsAfter}
 
@@ -50,3 +53,10 @@ upTo StopsAfter all = all - 1
 
 abbrev pub carriedOut : Due → List Effect → Party → Party
 carriedOut d es p = performed (upTo d (length es)) es p
+
+-- what setting a stop came to, and the plan then: a stop is for a write that is to come, and that has none yet
+abbrev pub Planned : Stop → Plan → Plan → Planning → Type 0
+Planned s p q Set = (p .writes < s .write) × (due (s .write) (p .stops) ≡ Goes) × (q ≡ record { writes = p .writes; stops = p .stops ++ s ∷ [] })
+Planned s p q NoSuchWrite = (s .write ≡ 0) × (q ≡ p)
+Planned s p q Past = (0 < s .write) × (s .write ≤ p .writes) × (q ≡ p)
+Planned s p q SetAlready = (p .writes < s .write) × (due (s .write) (p .stops) ≡ Goes → ⊥) × (q ≡ p)

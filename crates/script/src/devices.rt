@@ -7,7 +7,7 @@ ghost use Rattle.std.specs.Vec.{made};
 ghost use Rattle.ratchet.specs.State.{stateOf};
 ghost use Rattle.runs.specs.World.{among};
 ghost use Rattle.script.specs.Devices.{partyOf, planOf, SendDone, TakeDone};
-ghost use Rattle.script.specs.Plan.{dueNext, kept};
+ghost use Rattle.script.specs.Plan.{dueNext, kept, Planned};
 use ratchet::sides::Side;
 use ratchet::steps;
 use ratchet::steps::Sent;
@@ -19,7 +19,9 @@ use crate::searches;
 use crate::types::Due;
 use crate::types::Fault;
 use crate::types::FaultFromUnplaced;
+use crate::types::Planning;
 use crate::types::Sending;
+use crate::types::Stop;
 use crate::types::Taking;
 
 impl Device {
@@ -45,6 +47,24 @@ impl Device {
         ensures { λ r. ⌜ r ≡ among message (vec-items (now (self .entry) .left)) ⌝ }
     {
         searches::holds(&self.left, message)
+    }
+
+    // Plans a stop, for a write that is to come and has none yet.
+    pub fn plan(&mut self, stop: Stop) -> Result<Planning, Fault>
+        ensures plan { λ r. ⌜ made r (Planned stop (planOf (now (self .entry))) (planOf (now (self .exit)))) ⌝ }
+        ensures party { λ _. ⌜ partyOf (now (self .exit)) ≡ partyOf (now (self .entry)) ⌝ }
+    {
+        if stop.write == 0 {
+            return Ok(Planning::NoSuchWrite);
+        }
+        if stop.write <= self.writes {
+            return Ok(Planning::Past);
+        }
+        if searches::position(&self.stops, stop.write).is_some() {
+            return Ok(Planning::SetAlready);
+        }
+        self.stops.push(stop)?;
+        Ok(Planning::Set)
     }
 
     // What is planned for the write of this number; the plan is then without it.

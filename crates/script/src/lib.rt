@@ -3,3 +3,5 @@ pub mod types;
 mod searches;
 pub mod device;
 pub mod devices;
+pub mod player;
+pub mod playing;

@@ -43,6 +43,28 @@ pub enum Taking {
     Refused(Refusal),
 }
 
+// What a delivery comes to.
+#[derive(Clone, Copy)]
+pub enum Delivery {
+    NoSuchMessage,
+    // the bit that was to be turned is not in the message
+    NoSuchBit,
+    NeverLeft,
+    Taken(Taking),
+}
+
+// What setting a stop comes to.
+#[derive(Clone, Copy)]
+pub enum Planning {
+    Set,
+    // writes are counted from 1
+    NoSuchWrite,
+    // that write has been
+    Past,
+    // there is a stop for that write
+    SetAlready,
+}
+
 // Why a rehearsal can't go on, though its script is good.
 #[derive(Clone, Copy)]
 pub enum Fault {

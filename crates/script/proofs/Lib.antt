@@ -1,2 +1,3 @@
 mod Clauses
 mod Deliveries
+mod Texts

@@ -1,3 +1,5 @@
 pub mod Plan
 pub mod Devices
 pub mod Players
+pub mod Escapes
+pub mod Decimals

@@ -1,5 +1,7 @@
 // Rehearsals: scripts of what happens to two sides, and a player of them.
 pub mod types;
+pub mod text;
+pub mod numbers;
 mod searches;
 pub mod device;
 pub mod devices;

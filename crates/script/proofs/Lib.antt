@@ -1,3 +1,4 @@
 mod Clauses
 mod Deliveries
 mod Texts
+mod Lines

@@ -3,3 +3,5 @@ pub mod Devices
 pub mod Players
 pub mod Escapes
 pub mod Decimals
+pub mod Words
+pub mod Commands

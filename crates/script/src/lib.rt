@@ -2,6 +2,8 @@
 pub mod types;
 pub mod text;
 pub mod numbers;
+mod words;
+pub mod commands;
 mod searches;
 pub mod device;
 pub mod devices;

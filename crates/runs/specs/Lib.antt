@@ -2,4 +2,5 @@ pub mod World
 pub mod Rule
 pub mod Cases
 pub mod Secret
+pub mod Working
 pub mod Laws

@@ -17,6 +17,7 @@ pub data Secret : Type 0 where
   chain : Secret → Secret
   next : Secret → Secret
   key : Secret → Secret
+  deriving Discrete as Secret-discrete
 
 -- public halves are known to all, so a joint secret comes from either secret half; all else from what it is made of
 pub data Knows (stock : List Secret) : Secret → Type 0 where

@@ -5,3 +5,4 @@ pub mod Escapes
 pub mod Decimals
 pub mod Words
 pub mod Commands
+pub mod Output

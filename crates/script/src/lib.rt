@@ -9,3 +9,4 @@ pub mod device;
 pub mod devices;
 pub mod player;
 pub mod playing;
+pub mod output;

@@ -1,7 +1,7 @@
 -- Texts and numbers as scripts write them: the steps of their loops.
 use mathlib.Core.Path.{_≡_, refl, sym, ap, _∙_}
 use mathlib.Core.Bool.{true, false}
-use mathlib.Core.List.{List, [], _∷_, _++_, append-nil}
+use mathlib.Core.List.{List, [], _∷_, _++_, append-nil, append-assoc}
 use Prim.Native.Nat.{ℕ, _+_, _<_, _≤_}
 use lib.Dec.{eqb}
 use lib.ListN.{length, take, getD}
@@ -12,6 +12,8 @@ use Rattle.std.specs.Joined.{joined}
 use Rattle.std.proofs.shelf.Lists.{take-more, take-all, joined-more}
 use Rattle.std.proofs.shelf.Sums.{folded-more}
 use Rattle.std.proofs.shelf.Tests.{true≢false}
+use Rattle.ratchet.specs.declared.types.Mark.{Mark}
+use Rattle.script.specs.Output.{spacedMark}
 use Rattle.script.specs.Decimals.{digitAfter, numberOf}
 use Rattle.script.specs.declared.text.Escape.{Escape}
 use Rattle.script.specs.declared.text.Escape.the-variants.{Plain, Slash, Hex, Digit, Bad}
@@ -19,6 +21,10 @@ use Rattle.script.specs.Escapes.{escaped, escapedByte, Scan, scan, scanned, af
 
 pub escaped-none : (bs xs : List ℕ) → bs ≡ bs ++ escaped (take 0 xs)
 escaped-none bs xs = sym (append-nil bs)
+
+-- one part behind another
+pub append-two : {A : Type 0} (a b c d e : List A) → d ≡ a ++ b → e ≡ d ++ c → e ≡ a ++ (b ++ c)
+append-two a b c d e p q = q ∙ (ap (λ l. l ++ c) p ∙ append-assoc a b c)
 
 pub escaped-more : (bs xs : List ℕ) (i : ℕ) → i < length xs → bs ++ escaped (take i xs) ++ escapedByte (getD xs i 0) ≡ bs ++ escaped (take (i + 1) xs)
 escaped-more bs xs i h =
@@ -56,3 +62,7 @@ module _ (e : Escape) (t raw : List ℕ) (i : ℕ) (read : _≡_ {A = Scan} (rec
       none Hex n = refl
       none (Digit h) n = refl
       none Bad n = refl
+
+-- the marks of a line, one more
+pub marks-more : (bs : List ℕ) (ms : List Mark) (i : ℕ) (d : Mark) → i < length ms → bs ++ joined spacedMark (take i ms) ++ spacedMark (getD ms i d) ≡ bs ++ joined spacedMark (take (i + 1) ms)
+marks-more bs ms i d h = joined-more spacedMark bs (take i ms) (getD ms i d) ∙ ap (λ (l : List Mark). bs ++ joined spacedMark l) (sym (take-more ms i d h))

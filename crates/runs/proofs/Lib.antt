@@ -1,4 +1,4 @@
-mod Computed
+pub mod Computed
 pub mod Bools
 pub mod Works
 pub mod Recipes

@@ -1,7 +1,7 @@
 -- What a device's step is to the world of the two, and how a message is found by its number.
 use mathlib.Core.Path.{_≡_, refl, sym, ap, _∙_, subst}
 use mathlib.Core.Bool.{Bool, true, false, cond, _&&_}
-use mathlib.Core.List.{List}
+use mathlib.Core.List.{List, _++_}
 use mathlib.Core.Logic.{_⊎_, inl, inr}
 use Prim.Native.Nat.{ℕ, _-_, _<_, _≤_}
 use native.Mathlib.Omega.{arith}
@@ -20,14 +20,21 @@ use Rattle.runs.specs.declared.types.Who.{Who}
 use Rattle.runs.specs.declared.types.Who.the-variants.{First, Second}
 use Rattle.runs.specs.World.{Party, World, among, party, other, opens, performed, takeEffects, withParty}
 use Rattle.script.specs.declared.types.Due.{Due}
+use Rattle.std.specs.declared.option.Option.{Option}
+use Rattle.std.specs.declared.option.Option.the-variants.{Some}
+use Rattle.script.specs.declared.play.Played.the-variants as played
 use Rattle.script.specs.declared.types.Fault.{Fault}
+use Rattle.script.specs.declared.types.Sending.{Sending}
 use Rattle.script.specs.declared.types.Taking.{Taking}
 use Rattle.script.specs.declared.device.Device.{Device}
 use Rattle.script.specs.declared.player.Letter.{Letter}
 use Rattle.script.specs.declared.player.Player.{Player}
 use Rattle.script.specs.Plan.{dueNext, upTo, carriedOut}
 use Rattle.script.specs.Devices.{partyOf, planOf, TakeDone}
-use Rattle.script.specs.Players.{worldOf, lettersOf, postOf, noPost, numbered, isThere, device, Delivered}
+use Rattle.script.specs.Players.{worldOf, lettersOf, postOf, noPost, numbered, isThere, device, Delivered, SendPlayed}
+use Rattle.script.specs.Escapes.{unescaped}
+use Rattle.script.specs.Output.{sendingLine}
+use Rattle.script.specs.Played.{SendText, SendLine}
 
 pub made-map : {X Y : Type 0} (r : Result X Y) (P Q : X → Type 0) → ((x : X) → P x → Q x) → made r P → made r Q
 made-map (Ok x) P Q f h = f x h
@@ -74,22 +81,29 @@ handed-over from w is m whole p e r left h =
     (made-map r (TakeDone m whole (device (other w) p) e) (Delivered w m whole p (withDevice (other w) e p)) (λ t. delivered w m whole p e t l) h)
 
 -- message n, where there is one, is the letter that stands at n - 1
-module _ (p : Player) (n : ℕ) where
-  letters-length : length (lettersOf p) ≡ vec-len (p .letters)
-  letters-length = length-map (vec-items (p .letters)) postOf ∙ sym (p .letters .ok .0)
+pub letters-length : (p : Player) → length (lettersOf p) ≡ vec-len (p .letters)
+letters-length p = length-map (vec-items (p .letters)) postOf ∙ sym (p .letters .ok .0)
 
+module _ (p : Player) (n : ℕ) where
   pub not-there : (n ≡ 0) ⊎ (vec-len (p .letters) < n) → isThere n p ≡ false
   not-there (inl e) = rw (eq-eqb n 0 e)
-  not-there (inr h) = step (eqb n 0) (lt-leb n (length (lettersOf p)) (omega (arith, letters-length)))
+  not-there (inr h) = step (eqb n 0) (lt-leb n (length (lettersOf p)) (omega (arith, letters-length p)))
     where
       step : (b : Bool) → leb n (length (lettersOf p)) ≡ false → cond b false (leb n (length (lettersOf p))) ≡ false
       step true e = refl
       step false e = e
 
   pub there : (n ≡ 0 → ⊥) → n ≤ vec-len (p .letters) → isThere n p ≡ true
-  there ne h = rw (ne-eqb n 0 ne) (le-leb n (length (lettersOf p)) (omega (arith, letters-length)))
+  there ne h = rw (ne-eqb n 0 ne) (le-leb n (length (lettersOf p)) (omega (arith, letters-length p)))
 
   pub found : (l : Letter) → (n ≡ 0 → ⊥) → n ≤ vec-len (p .letters) → l ≡ getD (vec-items (p .letters)) (n - 1) l → postOf l ≡ numbered n p
   found l ne h e =
       let len = p .letters .ok .0 in
       ap postOf e ∙ sym (getD-map postOf (vec-items (p .letters)) (n - 1) l noPost (omega arith))
+
+-- a text that was read from a line is the one that is sent
+pub sent-line : (who : Who) (raw text : List ℕ) (p q : Player) (o u : List ℕ) (r : Sending) → Some text ≡ unescaped raw → SendPlayed who text p q r →
+  u ≡ o ++ sendingLine (vec-len (q .letters)) r → SendLine who raw p q o u played.Done
+sent-line who raw text p q o u r e s out =
+    let line = out ∙ ap (λ (n : ℕ). o ++ sendingLine n r) (sym (letters-length q)) in
+    subst (λ (t : Option (List ℕ)). SendText t who p q o u played.Done) e (refl, (r, record { sent = s; out = line }))

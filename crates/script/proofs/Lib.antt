@@ -2,3 +2,4 @@ mod Clauses
 mod Deliveries
 mod Texts
 mod Lines
+mod Runs

@@ -6,3 +6,5 @@ pub mod Decimals
 pub mod Words
 pub mod Commands
 pub mod Output
+pub mod Played
+pub mod Whole

@@ -14,6 +14,7 @@ use Rattle.ratchet.specs.Numbers.{number}
 use Rattle.ratchet.specs.State.{State}
 use Rattle.runs.specs.declared.types.Who.{Who}
 use Rattle.runs.specs.declared.types.Who.the-variants.{First, Second}
+use Rattle.runs.specs.World.{World}
 use Rattle.script.specs.declared.types.Sending.{Sending}
 use Rattle.script.specs.declared.types.Sending.the-variants as sending
 use Rattle.script.specs.declared.types.Taking.{Taking}
@@ -87,3 +88,7 @@ linksText s = codes "; sends " ++ (linkText (s .drawn) 1 (s .sent) ++ (codes "; 
 abbrev pub sideLine : Who → State → List ℕ
 sideLine who s =
     keysText who (s .drawn) ++ (linksText s ++ (labelled (codes "; before ") (s .before) ++ (codes "; aside" ++ (marksText (s .skipped) ++ (10 ∷ [])))))
+
+-- what both hold
+abbrev pub shown : World → List ℕ
+shown w = sideLine First (w .first .side) ++ sideLine Second (w .second .side)

@@ -10,3 +10,5 @@ pub mod devices;
 pub mod player;
 pub mod playing;
 pub mod output;
+pub mod play;
+pub mod rehearsal;

@@ -9,13 +9,15 @@ ghost use Rattle.ratchet.specs.State.{stateOf};
 ghost use Rattle.runs.specs.World.{start, step, reads, among, party};
 ghost use Rattle.script.specs.Plan.{Planned};
 ghost use Rattle.script.specs.Devices.{planOf};
-ghost use Rattle.script.specs.Players.{worldOf, lettersOf, Post, postOf, bitIsThere, device, SendPlayed, Delivered, DeliveryIs, Looked};
+ghost use Rattle.script.specs.Output.{takingLine};
+ghost use Rattle.script.specs.Players.{worldOf, lettersOf, Post, postOf, bitIsThere, device, SendPlayed, Delivered, DeliveryIs, Looked, isThere, numbered};
 use ratchet::sides::Side;
 use ratchet::steps;
 use ratchet::types::Message;
 use runs::types::Who;
 use std::alloc::Global;
 use crate::device::Device;
+use crate::output;
 use crate::player::Letter;
 use crate::player::Player;
 use crate::types::Delivery;
@@ -153,5 +155,17 @@ impl Player {
         }
         let taking = self.hand_over(from, message, flip.is_none())?;
         Ok(Delivery::Taken(taking))
+    }
+
+    // Prints what taking message `number` came to.
+    pub fn put_taking(&self, heap: Global, number: usize, outcome: Taking, out: &mut Vec<u8>) -> Result<(), Fault>
+        ensures { λ r. ⌜ made r (λ _. isThere number (now (self .entry)) ≡ true → vec-items (now (out .exit)) ≡ vec-items (now (out .entry)) ++ takingLine number (numbered number (now (self .entry)) .text) outcome) ⌝ }
+    {
+        if number == 0 || number > self.letters.len() {
+            return Ok(());
+        }
+        let letter = &self.letters[number - 1];
+        output::put_taking(heap, out, number, letter.text.as_slice(), outcome)?;
+        Ok(())
     }
 }

@@ -1,5 +1,2 @@
-mod Clauses
-mod Deliveries
-mod Texts
-mod Lines
+mod Joins
 mod Runs

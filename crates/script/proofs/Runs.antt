@@ -14,12 +14,12 @@ use Rattle.runs.proofs.Promises.{every-run}
 use Rattle.script.specs.declared.commands.Command.{Command}
 use Rattle.script.specs.declared.commands.Command.the-variants.{Nothing, Send, Deliver, Plan, Read, Show}
 use Rattle.script.specs.declared.play.Played.{Played}
-use Rattle.script.specs.declared.player.Player.{Player}
-use Rattle.script.specs.declared.types.Delivery.{Delivery}
-use Rattle.script.specs.declared.types.Delivery.the-variants as delivery
-use Rattle.script.specs.Escapes.{unescaped}
-use Rattle.script.specs.Players.{worldOf, numbered, whole, dueFor, DeliveryIs}
-use Rattle.script.specs.Plan.{upTo}
+use Rattle.stage.specs.declared.player.Player.{Player}
+use Rattle.stage.specs.declared.types.Delivery.{Delivery}
+use Rattle.stage.specs.declared.types.Delivery.the-variants as delivery
+use Rattle.notation.specs.Escapes.{unescaped}
+use Rattle.stage.specs.Players.{worldOf, numbered, whole, dueFor, DeliveryIs}
+use Rattle.stage.specs.Plan.{upTo}
 use Rattle.script.specs.Played.{SendText, LinePlayed}
 use Rattle.script.specs.Whole.{Lawful}
 

@@ -13,8 +13,8 @@ use Rattle.runs.specs.declared.types.Who.{Who}
 use Rattle.runs.specs.declared.types.Who.the-variants.{First, Second}
 use Rattle.script.specs.declared.commands.Command.{Command}
 use Rattle.script.specs.declared.commands.Command.the-variants.{Nothing, Send, Deliver, Plan, Read, Show}
-use Rattle.script.specs.Decimals.{numberOf}
-use Rattle.script.specs.Words.{same, starts, spaceAt, solid}
+use Rattle.notation.specs.Decimals.{numberOf}
+use Rattle.notation.specs.Words.{same, starts, spaceAt, solid}
 
 -- where several kinds of line are tried, the first that fits is it (`orOther`)
 

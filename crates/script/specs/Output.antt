@@ -15,11 +15,11 @@ use Rattle.ratchet.specs.State.{State}
 use Rattle.runs.specs.declared.types.Who.{Who}
 use Rattle.runs.specs.declared.types.Who.the-variants.{First, Second}
 use Rattle.runs.specs.World.{World}
-use Rattle.script.specs.declared.types.Sending.{Sending}
-use Rattle.script.specs.declared.types.Sending.the-variants as sending
-use Rattle.script.specs.declared.types.Taking.{Taking}
-use Rattle.script.specs.declared.types.Taking.the-variants as taking
-use Rattle.script.specs.Escapes.{escaped}
+use Rattle.stage.specs.declared.types.Sending.{Sending}
+use Rattle.stage.specs.declared.types.Sending.the-variants as sending
+use Rattle.stage.specs.declared.types.Taking.{Taking}
+use Rattle.stage.specs.declared.types.Taking.the-variants as taking
+use Rattle.notation.specs.Escapes.{escaped}
 
 -- `L/P`, and what follows it
 abbrev pub markText : Mark → List ℕ → List ℕ

@@ -15,19 +15,19 @@ use Rattle.script.specs.declared.play.BadLine.{BadLine}
 use Rattle.script.specs.declared.play.BadLine.the-variants.{NoCommand, BadText, NoSuchMessage, NoSuchBit, NeverLeft, NoSuchWrite, WritePast, StopSet}
 use Rattle.script.specs.declared.play.Played.{Played}
 use Rattle.script.specs.declared.play.Played.the-variants as played
-use Rattle.script.specs.declared.player.Player.{Player}
-use Rattle.script.specs.declared.types.Sending.{Sending}
-use Rattle.script.specs.declared.types.Taking.{Taking}
-use Rattle.script.specs.declared.types.Delivery.{Delivery}
-use Rattle.script.specs.declared.types.Delivery.the-variants as delivery
-use Rattle.script.specs.declared.types.Planning.{Planning}
-use Rattle.script.specs.declared.types.Planning.the-variants as planning
-use Rattle.script.specs.declared.types.Stop.{Stop}
-use Rattle.script.specs.Devices.{planOf}
-use Rattle.script.specs.Plan.{Planned}
-use Rattle.script.specs.Escapes.{unescaped}
+use Rattle.stage.specs.declared.player.Player.{Player}
+use Rattle.stage.specs.declared.types.Sending.{Sending}
+use Rattle.stage.specs.declared.types.Taking.{Taking}
+use Rattle.stage.specs.declared.types.Delivery.{Delivery}
+use Rattle.stage.specs.declared.types.Delivery.the-variants as delivery
+use Rattle.stage.specs.declared.types.Planning.{Planning}
+use Rattle.stage.specs.declared.types.Planning.the-variants as planning
+use Rattle.stage.specs.declared.types.Stop.{Stop}
+use Rattle.stage.specs.Devices.{planOf}
+use Rattle.stage.specs.Plan.{Planned}
+use Rattle.notation.specs.Escapes.{unescaped}
 use Rattle.script.specs.Output.{sendingLine, takingLine, readLine}
-use Rattle.script.specs.Players.{worldOf, lettersOf, device, numbered, SendPlayed, DeliveryIs}
+use Rattle.stage.specs.Players.{worldOf, lettersOf, device, numbered, SendPlayed, DeliveryIs}
 
 -- a line that is no good changes nothing and prints nothing
 pub record Kept-out (p q : Player) (o u : List ℕ) : Type 0 where

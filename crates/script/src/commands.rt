@@ -3,13 +3,13 @@ ghost use mathlib.Core.Path.{_≡_};
 ghost use lib.ListN.{length};
 ghost use Rattle.script.specs.Commands.{quietOf, readOf, sendOf, sendWith, stopAt, stopEither, stopOf, stopWith, deliverFlipped, deliverRest, deliverOf, flipOf, parsed};
 use runs::types::Who;
-use crate::types::Stop;
-use crate::words::begins;
-use crate::words::is_blank;
-use crate::words::is_word;
-use crate::words::number_before;
-use crate::words::number_behind;
-use crate::words::space;
+use stage::types::Stop;
+use notation::words::begins;
+use notation::words::is_blank;
+use notation::words::is_word;
+use notation::words::number_before;
+use notation::words::number_behind;
+use notation::words::space;
 
 // What a line asks for.
 #[derive(Clone, Copy)]

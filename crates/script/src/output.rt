@@ -10,11 +10,11 @@ use ratchet::sides::Side;
 use ratchet::types::Mark;
 use runs::types::Who;
 use std::alloc::Global;
-use crate::text::put_text;
-use crate::types::Fault;
-use crate::types::FaultFromAlloc;
-use crate::types::Sending;
-use crate::types::Taking;
+use notation::text::put_text;
+use notation::faults::Fault;
+use notation::faults::FaultFromAlloc;
+use stage::types::Sending;
+use stage::types::Taking;
 
 // Appends some bytes.
 fn put(out: &mut Vec<u8>, bytes: &[u8]) -> Result<(), Fault>

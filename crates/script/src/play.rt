@@ -1,21 +1,26 @@
 // One line of a script: the step that it asks for, and what that prints.
 ghost use mathlib.Core.Path.{_≡_};
+ghost use mathlib.Core.Bool.{true};
+ghost use mathlib.Core.List.{_++_};
 ghost use lib.ListN.{drop};
 ghost use Rattle.std.specs.Of.Vec.{vec-items};
 ghost use Rattle.std.specs.Vec.{made};
 ghost use Rattle.script.specs.Commands.{parsed};
+ghost use Rattle.script.specs.Output.{takingLine};
+ghost use Rattle.stage.specs.Players.{isThere, numbered};
 ghost use Rattle.script.specs.Played.{SendLine, DeliverLine, PlanLine, ReadLine, LinePlayed};
 use runs::types::Who;
 use std::alloc::Global;
 use crate::commands;
 use crate::commands::Command;
 use crate::output;
-use crate::player::Player;
-use crate::text;
-use crate::types::Delivery;
-use crate::types::Fault;
-use crate::types::Planning;
-use crate::types::Stop;
+use stage::player::Player;
+use notation::text;
+use stage::types::Delivery;
+use notation::faults::Fault;
+use stage::types::Planning;
+use stage::types::Stop;
+use stage::types::Taking;
 
 // Why a line is no good.
 #[derive(Clone, Copy)]
@@ -51,6 +56,18 @@ fn play_send(heap: Global, player: &mut Player, from: Who, raw: &[u8], out: &mut
     Ok(Played::Done)
 }
 
+// Prints what taking message `number` came to.
+fn put_taking(heap: Global, player: &Player, number: usize, outcome: Taking, out: &mut Vec<u8>) -> Result<(), Fault>
+    ensures { λ r. ⌜ made r (λ _. isThere number (now (player .entry)) ≡ true → vec-items (now (out .exit)) ≡ vec-items (now (out .entry)) ++ takingLine number (numbered number (now (player .entry)) .text) outcome) ⌝ }
+{
+    if number == 0 || number > player.letters.len() {
+        return Ok(());
+    }
+    let letter = &player.letters[number - 1];
+    output::put_taking(heap, out, number, letter.text.as_slice(), outcome)?;
+    Ok(())
+}
+
 // `deliver M`, with a bit turned if one is named.
 fn play_deliver(heap: Global, player: &mut Player, number: usize, flip: Option<usize>, out: &mut Vec<u8>) -> Result<Played, Fault>
     ensures { λ r. ⌜ made r (DeliverLine number flip (now (player .entry)) (now (player .exit)) (vec-items (now (out .entry))) (vec-items (now (out .exit)))) ⌝ }
@@ -60,7 +77,7 @@ fn play_deliver(heap: Global, player: &mut Player, number: usize, flip: Option<u
         Delivery::NoSuchBit => Ok(Played::Bad(BadLine::NoSuchBit)),
         Delivery::NeverLeft => Ok(Played::Bad(BadLine::NeverLeft)),
         Delivery::Taken(taking) => {
-            player.put_taking(heap, number, taking, out)?;
+            put_taking(heap, player, number, taking, out)?;
             Ok(Played::Done)
         }
     }

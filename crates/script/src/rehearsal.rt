@@ -7,7 +7,7 @@ ghost use Rattle.std.specs.Of.Vec.{vec-items};
 ghost use Rattle.std.specs.Vec.{made};
 ghost use Rattle.ratchet.specs.State.{stateOf};
 ghost use Rattle.script.specs.Output.{shown};
-ghost use Rattle.script.specs.Players.{worldOf};
+ghost use Rattle.stage.specs.Players.{worldOf};
 ghost use Rattle.script.specs.Whole.{Lawful};
 use runs::types::Who;
 use std::alloc::Global;
@@ -15,8 +15,8 @@ use crate::output;
 use crate::play::BadLine;
 use crate::play::Played;
 use crate::play::play;
-use crate::player::Player;
-use crate::types::Fault;
+use stage::player::Player;
+use notation::faults::Fault;
 
 // How a script ended.
 #[derive(Clone, Copy)]

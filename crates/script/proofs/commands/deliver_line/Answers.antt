@@ -1,5 +1,5 @@
 use mathlib.Core.Path.{sym, _∙_}
-use Rattle.script.proofs.Lines.{delivered-line}
+use Rattle.script.proofs.Joins.{delivered-line}
 use Rattle.script.proofs.commands.deliver_line.Needs as need
 
 pub returns : need.returns

@@ -1,5 +1,5 @@
 use mathlib.Core.Path.{sym, _∙_}
-use Rattle.script.proofs.Lines.{delivered-rest}
+use Rattle.script.proofs.Joins.{delivered-rest}
 use Rattle.script.proofs.commands.deliver_rest.Needs as need
 
 pub returns-in-Some : need.returns-in-Some

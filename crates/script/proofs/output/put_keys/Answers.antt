@@ -4,7 +4,7 @@ use Prim.Native.Nat.{ℕ}
 use lib.Chars.{codes}
 use Rattle.std.specs.Of.Vec.{vec-items}
 use Rattle.script.specs.Output.{nameOf, labelled}
-use Rattle.script.proofs.Texts.{append-two}
+use Rattle.script.proofs.Joins.{append-two}
 use Rattle.script.proofs.output.put_keys.Needs as need
 
 pub returns : need.returns

@@ -1,6 +1,6 @@
 use Rattle.std.specs.Of.Vec.{vec-items}
 use Rattle.std.specs.Written.{decimal}
-use Rattle.script.proofs.Texts.{append-two}
+use Rattle.script.proofs.Joins.{append-two}
 use Rattle.script.proofs.output.put_labelled.Needs as need
 
 pub returns : need.returns

@@ -2,7 +2,7 @@ use mathlib.Core.List.{_++_}
 use lib.Chars.{codes}
 use Rattle.std.specs.Of.Vec.{vec-items}
 use Rattle.script.specs.Output.{linkText}
-use Rattle.script.proofs.Texts.{append-two}
+use Rattle.script.proofs.Joins.{append-two}
 use Rattle.script.proofs.output.put_links.Needs as need
 
 pub returns : need.returns

@@ -11,7 +11,7 @@ use Rattle.std.proofs.shelf.Tests.{ne-eqb, cond-false}
 use Rattle.ratchet.specs.declared.types.Mark.{Mark}
 use Rattle.ratchet.specs.Blank.{blank}
 use Rattle.script.specs.Output.{spacedMark}
-use Rattle.script.proofs.Texts.{marks-more}
+use Rattle.script.proofs.Joins.{marks-more}
 use Rattle.script.proofs.output.put_marks.Needs as need
 
 pub loop-mark-again : need.loop-mark-again

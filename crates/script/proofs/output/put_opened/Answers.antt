@@ -3,7 +3,7 @@ use lib.Chars.{codes}
 use Rattle.std.specs.Of.Vec.{vec-items}
 use Rattle.std.specs.Written.{decimal}
 use Rattle.script.specs.Output.{textPart}
-use Rattle.script.proofs.Texts.{append-two}
+use Rattle.script.proofs.Joins.{append-two}
 use Rattle.script.proofs.output.put_opened.Needs as need
 
 pub returns : need.returns

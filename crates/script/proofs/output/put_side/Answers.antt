@@ -7,7 +7,7 @@ use lib.ListN.{take}
 use Rattle.std.specs.Of.Vec.{vec-items}
 use Rattle.ratchet.specs.State.{stateOf}
 use Rattle.script.specs.Output.{keysText, linksText, labelled, marksText}
-use Rattle.script.proofs.Texts.{append-two}
+use Rattle.script.proofs.Joins.{append-two}
 use Rattle.script.proofs.output.put_side.Needs as need
 
 pub returns : need.returns

@@ -5,8 +5,8 @@ use lib.Dec.{eqb}
 use lib.ListN.{length}
 use Rattle.std.specs.Of.Vec.{vec-items}
 use Rattle.std.proofs.shelf.Tests.{ne-eqb, cond-false}
-use Rattle.script.specs.Escapes.{escaped}
-use Rattle.script.proofs.Texts.{append-two}
+use Rattle.notation.specs.Escapes.{escaped}
+use Rattle.script.proofs.Joins.{append-two}
 use Rattle.script.proofs.output.put_text_part.Needs as need
 
 pub returns : need.returns

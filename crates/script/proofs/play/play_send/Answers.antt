@@ -4,7 +4,7 @@ use Prim.Native.Nat.{ℕ}
 use Rattle.std.specs.Of.Vec.{vec-items}
 use Rattle.std.specs.Options.{mapped}
 use Rattle.script.specs.Output.{sendingLine}
-use Rattle.script.proofs.Deliveries.{sent-line}
+use Rattle.script.proofs.Joins.{sent-line}
 use Rattle.script.proofs.play.play_send.Needs as need
 
 pub returns : need.returns

@@ -2,7 +2,7 @@ use Prim.Native.Nat.{_-_}
 use lib.ListN.{take, drop}
 use Rattle.std.specs.Of.Vec.{vec-items}
 use Rattle.script.specs.Commands.{parsed}
-use Rattle.script.specs.Players.{worldOf}
+use Rattle.stage.specs.Players.{worldOf}
 use Rattle.script.specs.declared.play.Played.the-variants.{Bad}
 use Rattle.script.proofs.Runs.{ran-none, ran-more, line-moved, lawful}
 use Rattle.script.proofs.rehearsal.play_all.Needs as need

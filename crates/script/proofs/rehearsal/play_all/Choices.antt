@@ -3,7 +3,7 @@ use mathlib.Core.List.{List}
 use Prim.Native.Nat.{_-_}
 use lib.ListN.{length}
 use Rattle.runs.specs.World.{Event, run}
-use Rattle.script.specs.Players.{worldOf}
+use Rattle.stage.specs.Players.{worldOf}
 use Rattle.script.proofs.rehearsal.play_all.Given as given
 
 abbrev pub Inv-loop-at : given.InvT-loop-at

@@ -2,7 +2,7 @@ use Rattle.std.specs.Of.Vec.{vec-items}
 use Rattle.ratchet.specs.State.{stateOf}
 use Rattle.runs.specs.declared.types.Who.the-variants.{First, Second}
 use Rattle.script.specs.Output.{sideLine}
-use Rattle.script.proofs.Texts.{append-two}
+use Rattle.script.proofs.Joins.{append-two}
 use Rattle.script.proofs.rehearsal.put_sides.Needs as need
 
 pub returns : need.returns

@@ -1,7 +1,0 @@
-use mathlib.Core.Path.{ap, _∙_}
-use Rattle.std.proofs.shelf.Lists.{take-rest}
-use Rattle.script.specs.Decimals.{numberOf}
-use Rattle.script.proofs.words.number_behind.Needs as need
-
-pub returns : need.returns
-returns c = c .parse-number .ensures ∙ ap numberOf (take-rest (c .args .line .now) (c .args .at))

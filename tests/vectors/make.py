@@ -100,4 +100,4 @@ if __name__ == "__main__":
     if sys.argv[1:] == ["--check"]:
         check()
     else:
-        (HERE.parent / "crates/seal_vectors/stdout").write_text("".join(line + "\n" for line in lines()))
+        (HERE.parent.parent / "crates/seal_vectors/stdout").write_text("".join(line + "\n" for line in lines()))

@@ -13,7 +13,8 @@ use Rattle.ratchet.specs.declared.types.Mark.{Mark}
 use Rattle.ratchet.specs.State.{State, has}
 use Rattle.runs.specs.declared.types.Who.{Who}
 use Rattle.runs.specs.declared.types.Who.the-variants.{First, Second}
-use Rattle.runs.specs.Secret.{Knows, keyOf, stock, stocks}
+use Rattle.chain.specs.Secret.{Knows}
+use Rattle.runs.specs.Stock.{keyOf, stock, stocks}
 use Rattle.runs.specs.Rule.{anyRead, readAt, rootOpen, linkOpen, sees, exposed}
 use Rattle.runs.specs.World.{World, Event, sends, takes, reads, step, run, party}
 use Rattle.runs.proofs.Exposed.{exactly}

@@ -7,7 +7,8 @@ use lib.Dec.{eqb, leb}
 use Rattle.std.specs.Orderings.{Decides}
 use Rattle.std.proofs.shelf.Ways.{decides-at}
 use Rattle.ratchet.specs.State.{State, has}
-use Rattle.runs.specs.Secret.{own, joint, rootOf, linkOf, along, chainAt, keyAt, stocks, Knows}
+use Rattle.chain.specs.Secret.{own, joint, rootOf, linkOf, along, chainAt, keyAt, Knows}
+use Rattle.runs.specs.Stock.{stocks}
 use Rattle.runs.specs.Rule.{anyRead, readAt, rootOpen, linkOpen, sees, exposed}
 use Rattle.runs.specs.Working.{worksOut}
 use Rattle.runs.proofs.Bools.{or-assoc, or-comm, or-middle, and-or, upto-none, upto-more, any-same, any-or}

@@ -12,7 +12,8 @@ use Rattle.std.proofs.shelf.Lists.{getD-append-right}
 use Rattle.ratchet.specs.declared.types.Mark.{Mark}
 use Rattle.ratchet.specs.declared.types.Message.{Message}
 use Rattle.ratchet.specs.Same.{sameMark, sameMessage}
-use Rattle.runs.specs.Secret.{Secret, shared, keyOf}
+use Rattle.chain.specs.Secret.{Secret, shared}
+use Rattle.runs.specs.Stock.{keyOf}
 use Rattle.runs.specs.World.{among}
 use Rattle.runs.specs.Laws.{keysOf, NoneTwice}
 use Rattle.runs.proofs.Recipes.{keys-back}

@@ -6,7 +6,7 @@ use Prim.Native.Nat.{ℕ, zero, suc}
 use lib.Dec.{eqb}
 use Rattle.std.proofs.shelf.Tests.{cases-bool}
 use Rattle.std.proofs.shelf.Ways.{same-from-decides, decides-and, decides-eqb, decides-like}
-use Rattle.runs.specs.Secret.{Secret, shared, own, joint, mix, root, chain, next, key, rootOf, linkOf, along, chainAt, keyAt}
+use Rattle.chain.specs.Secret.{Secret, shared, own, joint, mix, root, chain, next, key, rootOf, linkOf, along, chainAt, keyAt}
 use Rattle.runs.specs.Working.{sameSecret}
 use Rattle.runs.proofs.Works.{same-decides}
 

@@ -8,7 +8,8 @@ use lib.Dec.{eqb, eqb·suc-suc}
 use Rattle.std.proofs.shelf.Tests.{or-from, ne-eqb}
 use Rattle.ratchet.specs.declared.types.Mark.{Mark}
 use Rattle.ratchet.specs.State.{State, has}
-use Rattle.runs.specs.Secret.{Secret, own, joint, mix, root, chain, key, rootOf, linkOf, chainAt, keyAt, keyOf, sending, taking, stock, stocks}
+use Rattle.chain.specs.Secret.{Secret, own, joint, mix, root, chain, key, rootOf, linkOf, chainAt, keyAt}
+use Rattle.runs.specs.Stock.{keyOf, sending, taking, stock, stocks}
 use Rattle.runs.specs.Rule.{anyRead, readAt}
 use Rattle.runs.specs.Working.{sameSecret, inStock}
 use Rattle.runs.proofs.Bools.{or-false, or-assoc, any-same, any-none}

@@ -7,7 +7,7 @@ use Prim.Native.Nat.{suc}
 use native.Mathlib.Decide.{ℕ-discrete}
 use Rattle.std.specs.Orderings.{Decides}
 use Rattle.std.proofs.shelf.Tests.{false≢true, or-cases, or-left, or-right, and-parts, and-from}
-use Rattle.runs.specs.Secret.{Secret, Secret-discrete, shared, own, joint, mix, root, chain, next, key, Knows, had, below, above, mixed, rooted, chained, onward, keyed}
+use Rattle.chain.specs.Secret.{Secret, Secret-discrete, shared, own, joint, mix, root, chain, next, key, Knows, had, below, above, mixed, rooted, chained, onward, keyed}
 use Rattle.runs.specs.Working.{sameSecret, inStock, worksOut}
 
 abbrev saysYes : {P : Type 0} → Dec P → Bool

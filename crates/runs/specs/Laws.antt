@@ -11,7 +11,8 @@ use Rattle.ratchet.specs.declared.types.Message.{Message}
 use Rattle.ratchet.specs.State.{State}
 use Rattle.ratchet.specs.Steps.{Answer, kept, refused, inTurn, isNew, passed, left}
 use Rattle.runs.specs.declared.types.Who.{Who}
-use Rattle.runs.specs.Secret.{Secret, shared, Knows, keyAt, keyOf, stock, stocks}
+use Rattle.chain.specs.Secret.{Secret, shared, Knows, keyAt}
+use Rattle.runs.specs.Stock.{keyOf, stock, stocks}
 use Rattle.runs.specs.Rule.{exposed}
 use Rattle.runs.specs.World.{World, Event, run, start, party, other, among, takeAnswer}
 

@@ -1,6 +1,6 @@
 pub mod World
 pub mod Rule
 pub mod Cases
-pub mod Secret
+pub mod Stock
 pub mod Working
 pub mod Laws

@@ -4,7 +4,7 @@ use mathlib.Core.Bool.{Bool, true, false, _&&_, _||_}
 use mathlib.Core.List.{List, [], _∷_}
 use Prim.Native.Nat.{ℕ, suc}
 use native.Mathlib.Decide.{ℕ-discrete}
-use Rattle.runs.specs.Secret.{Secret, Secret-discrete, shared, own, joint, mix, root, chain, next, key}
+use Rattle.chain.specs.Secret.{Secret, Secret-discrete, shared, own, joint, mix, root, chain, next, key}
 
 -- have two secrets the same recipe
 unfoldable pub sameSecret : Secret → Secret → Bool

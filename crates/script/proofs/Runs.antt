@@ -21,11 +21,7 @@ use Rattle.notation.specs.Escapes.{unescaped}
 use Rattle.stage.specs.Players.{worldOf, numbered, whole, dueFor, DeliveryIs}
 use Rattle.stage.specs.Plan.{upTo}
 use Rattle.script.specs.Played.{SendText, LinePlayed}
-use Rattle.script.specs.Whole.{Lawful}
-
--- at most one step
-abbrev pub Moved : World → World → Type 0
-Moved w v = (v ≡ w) ⊎ ((e : Event) × (v ≡ step e w))
+use Rattle.script.specs.Whole.{Moved, Lawful}
 
 delivery-moved : (n : ℕ) (flip : Option ℕ) (p q : Player) (d : Delivery) → DeliveryIs n flip p q d → Moved (worldOf p) (worldOf q)
 delivery-moved n flip p q delivery.NoSuchMessage h = inl (ap worldOf (h .1))

@@ -1,4 +1,5 @@
 pub mod Commands
 pub mod Output
 pub mod Played
+pub mod Views
 pub mod Whole

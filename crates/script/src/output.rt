@@ -1,6 +1,7 @@
 // What a rehearsal prints, line by line.
 ghost use mathlib.Core.Path.{_≡_};
-ghost use mathlib.Core.List.{_++_};
+ghost use mathlib.Core.List.{_++_, _∷_, []};
+ghost use lib.Chars.{codes};
 ghost use Rattle.std.specs.Of.Vec.{vec-items};
 ghost use Rattle.std.specs.Vec.{made};
 ghost use Rattle.std.specs.Written.{decimal};
@@ -17,7 +18,7 @@ use stage::types::Sending;
 use stage::types::Taking;
 
 // Appends some bytes.
-fn put(out: &mut Vec<u8>, bytes: &[u8]) -> Result<(), Fault>
+pub fn put(out: &mut Vec<u8>, bytes: &[u8]) -> Result<(), Fault>
     ensures { λ r. ⌜ made r (λ _. vec-items (now (out .exit)) ≡ vec-items (now (out .entry)) ++ now (bytes .entry)) ⌝ }
 {
     out.extend_from_slice(bytes)?;
@@ -200,6 +201,16 @@ pub fn put_side(heap: Global, out: &mut Vec<u8>, who: Who, side: Side) -> Result
     let slots = side.marks;
     let count = side.count;
     put_marks(heap, out, &slots[0..count])?;
+    put(out, b"\n")?;
+    Ok(())
+}
+
+// `line K`
+pub fn put_line_number(heap: Global, out: &mut Vec<u8>, number: usize) -> Result<(), Fault>
+    ensures { λ r. ⌜ made r (λ _. vec-items (now (out .exit)) ≡ vec-items (now (out .entry)) ++ (labelled (codes "line ") number ++ 10 ∷ [])) ⌝ }
+{
+    put(out, b"line ")?;
+    put_number(heap, out, number)?;
     put(out, b"\n")?;
     Ok(())
 }

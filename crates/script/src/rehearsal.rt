@@ -1,6 +1,6 @@
 // A whole script, line by line.
 ghost use mathlib.Core.Path.{_≡_};
-ghost use mathlib.Core.List.{_++_};
+ghost use mathlib.Core.List.{_++_, map};
 ghost use Prim.Native.Nat.{ℕ, _≤_, _<_};
 ghost use lib.ListN.{length, getD};
 ghost use Rattle.std.specs.Of.Vec.{vec-items};
@@ -8,15 +8,28 @@ ghost use Rattle.std.specs.Vec.{made};
 ghost use Rattle.ratchet.specs.State.{stateOf};
 ghost use Rattle.script.specs.Output.{shown};
 ghost use Rattle.stage.specs.Players.{worldOf};
-ghost use Rattle.script.specs.Whole.{Lawful};
+ghost use Rattle.script.specs.Views.{markOf, opennessOf, showOf, endOf};
+ghost use Rattle.script.specs.Whole.{Moved, Lawful};
+use exposure::rows;
+use ratchet::types::Mark;
 use runs::types::Who;
 use std::alloc::Global;
 use crate::output;
 use crate::play::BadLine;
 use crate::play::Played;
 use crate::play::play;
+use stage::player::Letter;
 use stage::player::Player;
 use notation::faults::Fault;
+
+// What a `show` shows.
+#[derive(Clone, Copy)]
+pub enum View {
+    // what each side holds
+    Sides,
+    // of each message, who can open it
+    Openness,
+}
 
 // How a script ended.
 #[derive(Clone, Copy)]
@@ -42,8 +55,19 @@ pub fn line_end(script: &[u8], at: usize) -> usize
     script.len()
 }
 
+// The marks of the messages sealed so far, in their order.
+fn marks_of(heap: Global, letters: &[Letter]) -> Result<Vec<Mark>, Fault>
+    ensures { λ r. ⌜ made r (λ v. vec-items v ≡ map markOf (now (letters .entry))) ⌝ }
+{
+    let mut marks = Vec::new(heap);
+    for letter in letters {
+        marks.push(letter.message.mark)?;
+    }
+    Ok(marks)
+}
+
 // What both sides hold.
-pub fn put_sides(heap: Global, player: &Player, out: &mut Vec<u8>) -> Result<(), Fault>
+fn put_sides(heap: Global, player: &Player, out: &mut Vec<u8>) -> Result<(), Fault>
     ensures { λ r. ⌜ made r (λ _. vec-items (now (out .exit)) ≡ vec-items (now (out .entry)) ++ shown (worldOf (now (player .entry)))) ⌝ }
 {
     output::put_side(heap, out, Who::First, player.first.page)?;
@@ -51,21 +75,71 @@ pub fn put_sides(heap: Global, player: &Player, out: &mut Vec<u8>) -> Result<(),
     Ok(())
 }
 
+// Of each message sealed so far, whether its key lies open and whether it can be worked out.
+fn put_openness(heap: Global, player: &Player, out: &mut Vec<u8>) -> Result<(), Fault>
+    ensures { λ r. ⌜ made r (λ _. vec-items (now (out .exit)) ≡ vec-items (now (out .entry)) ++ opennessOf (now (player .entry))) ⌝ }
+{
+    let marks = marks_of(heap, player.letters.as_slice())?;
+    rows::put_rows(heap, player.readings.as_slice(), marks.as_slice(), out)?;
+    Ok(())
+}
+
+// What a `show` on this line prints.
+fn put_show(heap: Global, player: &Player, view: View, number: usize, out: &mut Vec<u8>) -> Result<(), Fault>
+    ensures { λ r. ⌜ made r (λ _. vec-items (now (out .exit)) ≡ vec-items (now (out .entry)) ++ showOf view number (now (player .entry))) ⌝ }
+{
+    match view {
+        View::Sides => put_sides(heap, player, out),
+        View::Openness => {
+            output::put_line_number(heap, out, number)?;
+            put_openness(heap, player, out)?;
+            Ok(())
+        }
+    }
+}
+
+// Plays a line; what it prints is kept only where the sides are viewed.
+fn play_viewed(heap: Global, player: &mut Player, view: View, line: &[u8], out: &mut Vec<u8>) -> Result<Played, Fault>
+    ensures { λ r. ⌜ made r (λ _. Moved (worldOf (now (player .entry))) (worldOf (now (player .exit)))) ⌝ }
+{
+    match view {
+        View::Sides => play(heap, player, line, out),
+        View::Openness => {
+            let mut said = Vec::new(heap);
+            play(heap, player, line, &mut said)
+        }
+    }
+}
+
 // Plays a script to its end, or to its first bad line.
-pub fn play_all(heap: Global, player: &mut Player, script: &[u8], out: &mut Vec<u8>) -> Result<Ending, Fault>
+pub fn play_all(heap: Global, player: &mut Player, view: View, script: &[u8], out: &mut Vec<u8>) -> Result<Ending, Fault>
     ensures { λ r. ⌜ made r (λ _. Lawful (worldOf (now (player .entry))) (worldOf (now (player .exit)))) ⌝ }
 {
     let mut at = 0usize;
     let mut number = 1usize;
     while at < script.len() {
         let end = line_end(script, at);
-        match play(heap, player, &script[at..end], out)? {
+        match play_viewed(heap, player, view, &script[at..end], out)? {
             Played::Done => {}
-            Played::Show => put_sides(heap, player, out)?,
+            Played::Show => put_show(heap, player, view, number, out)?,
             Played::Bad(why) => return Ok(Ending::Bad(number, why)),
         }
         at = end + 1;
         number = number.saturating_add(1);
     }
     Ok(Ending::Whole)
+}
+
+// What stands behind the last line of a script: nothing for the sides, `end` and the rows for who can open what.
+pub fn put_end(heap: Global, player: &Player, view: View, out: &mut Vec<u8>) -> Result<(), Fault>
+    ensures { λ r. ⌜ made r (λ _. vec-items (now (out .exit)) ≡ vec-items (now (out .entry)) ++ endOf view (now (player .entry))) ⌝ }
+{
+    match view {
+        View::Sides => Ok(()),
+        View::Openness => {
+            output::put(out, b"end\n")?;
+            put_openness(heap, player, out)?;
+            Ok(())
+        }
+    }
 }

@@ -1,10 +1,7 @@
 -- Secrets, each written as the recipe by which it comes about, and what somebody with some of them can work out.
 -- Assumes that nothing goes backwards, and that a joint secret comes only from a secret half.
-use mathlib.Core.Path.{_≡_}
-use mathlib.Core.List.{List, [], _∷_, _++_, List·Memᴰ, map}
+use mathlib.Core.List.{List, List·Memᴰ}
 use Prim.Native.Nat.{ℕ, zero, suc}
-use Rattle.ratchet.specs.declared.types.Mark.{Mark}
-use Rattle.ratchet.specs.State.{State}
 
 -- shared: what the two had from the start; own n: the secret half of key n; joint n: what keys n and n + 1 give together;
 -- mix: a root with a joint secret; root and chain: made from that; next: one place on in a chain; key: the key of one message
@@ -48,27 +45,3 @@ chainAt n i = along i (chain (linkOf n))
 
 abbrev pub keyAt : (n i : ℕ) → Secret
 keyAt n i = key (chainAt n i)
-
-abbrev pub keyOf : Mark → Secret
-keyOf m = keyAt (m .link) (m .place)
-
--- ### What a side holds
-
--- the chain of the link that it sends on, and of the link that it takes on, each at the next place, where there are such
-unfoldable pub sending : (drawn sent : ℕ) → List Secret
-sending zero i = []
-sending (suc n) i = chainAt n i ∷ []
-
-unfoldable pub taking : (drawn taken : ℕ) → List Secret
-taking zero i = []
-taking (suc zero) i = []
-taking (suc (suc n)) i = chainAt n i ∷ []
-
--- the secret half of its last key, its root, its two chains, and the keys put aside; nothing else
-abbrev pub stock : State → List Secret
-stock s =
-    own (s .drawn) ∷ rootOf (s .drawn) ∷ (sending (s .drawn) (s .sent) ++ taking (s .drawn) (s .taken) ++ map keyOf (s .skipped))
-
-unfoldable pub stocks : List State → List Secret
-stocks [] = []
-stocks (s ∷ ss) = stock s ++ stocks ss

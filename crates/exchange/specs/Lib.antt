@@ -1,0 +1,10 @@
+pub mod Outside
+pub mod Wire
+pub mod Held
+pub mod Exchanges
+pub mod Network
+pub mod Model
+pub mod Promise
+pub mod Tagged
+pub mod Pinned
+pub mod Cases

@@ -35,7 +35,7 @@ number-some (x ∷ xs) e = refl
 -- the reading of a text: one byte more, and the end
 module _ (e : Escape) (t raw : List ℕ) (i : ℕ) (read : _≡_ {A = Scan} (record { escape = e; text = t }) (scanned (take i raw))) where
   pub scan-more : (f : Escape) (u : List ℕ) → i < length raw → u ≡ t ++ emitted e (getD raw i 0) → f ≡ after e (getD raw i 0) →
-    _≡_ {A = Scan} (record { escape = f; text = u }) (scanned (take (i + 1) raw))
+      _≡_ {A = Scan} (record { escape = f; text = u }) (scanned (take (i + 1) raw))
   scan-more f u h p q =
       let b = getD raw i 0 in
       let here : _≡_ {A = Scan} (record { escape = f; text = u }) (scan (record { escape = e; text = t }) b) = λ j. record { escape = q j; text = p j } in

@@ -1,5 +1,5 @@
 // How scripts and output are written: escaped texts, numbers, words of a line.
 pub mod faults;
-pub mod text;
 pub mod numbers;
+pub mod text;
 pub mod words;

@@ -6,10 +6,10 @@ ghost use Rattle.std.specs.Of.Vec.{vec-items};
 ghost use Rattle.std.specs.Options.{mapped};
 ghost use Rattle.std.specs.Vec.{made, listOf};
 ghost use Rattle.notation.specs.Escapes.{escaped, escapedByte, hexDigit, hexValue, after, emitted, unescaped};
-use std::alloc::Global;
 use crate::faults::Fault;
 use crate::faults::FaultFromAlloc;
 use crate::faults::FaultFromUnplaced;
+use std::alloc::Global;
 
 // Where the reading of an escape stands.
 #[derive(Clone, Copy)]
@@ -73,7 +73,11 @@ fn after_byte(escape: Escape, b: u8) -> Escape
     ensures { λ r. ⌜ r ≡ after escape b ⌝ }
 {
     match escape {
-        Escape::Plain => if b == 92 { Escape::Slash } else { Escape::Plain },
+        Escape::Plain => if b == 92 {
+            Escape::Slash
+        } else {
+            Escape::Plain
+        },
         Escape::Slash => if b == 120 { Escape::Hex } else { Escape::Bad },
         Escape::Hex => match hex_value(b) {
             Some(d) => Escape::Digit(d),

@@ -5,7 +5,6 @@ ghost use Prim.Native.Nat.{_≤_};
 ghost use lib.ListN.{length, take, drop};
 ghost use Rattle.notation.specs.Decimals.{numberOf};
 ghost use Rattle.notation.specs.Words.{same, starts, spaceAt, visible, solid};
-
 use crate::numbers::parse_number;
 
 // Is this line that word.

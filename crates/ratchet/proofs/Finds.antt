@@ -31,7 +31,7 @@ module _ {A : Type 0} (f : A → Bool) (g : List A → Bool) (none : g [] ≡ fa
 
   -- w is a list without the first that passes
   pub taken-out : (w : List A → List A) → ((x : A) (xs : List A) → w (x ∷ xs) ≡ cond (f x) xs (x ∷ w xs)) → (xs : List A) (i : ℕ) (d : A) → i < length xs →
-    g (take i xs) ≡ false → f (getD xs i d) ≡ true → w xs ≡ removed xs i
+      g (take i xs) ≡ false → f (getD xs i d) ≡ true → w xs ≡ removed xs i
   taken-out w step [] i d h before here = absurd (omega arith)
   taken-out w step (x ∷ xs) zero d h before here = step x xs ∙ cond-true (f x) xs (x ∷ w xs) here
   taken-out w step (x ∷ xs) (suc i) d h before here =

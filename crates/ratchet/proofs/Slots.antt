@@ -34,7 +34,7 @@ getD-places l f (suc n) (suc i) d h =
 
 -- one more of a run of marks
 pub put-more : (xs : List Mark) (at l f n i : ℕ) → at + i < length xs → i < n →
-  set (paste xs at (places l f n) i) (at + i) (record { link = l; place = f + i }) ≡ paste xs at (places l f n) (i + 1)
+    set (paste xs at (places l f n) i) (at + i) (record { link = l; place = f + i }) ≡ paste xs at (places l f n) (i + 1)
 put-more xs at l f n i h k =
     let d : Mark = record { link = 0; place = 0 } in
     let m = getD-places l f n i d k in
@@ -56,7 +56,7 @@ without-step m x xs = refl
 -- one mark taken out of its place: those behind it move down, and the last is overwritten
 module _ (xs : List Mark) (i : ℕ) (h : i < length xs) (b : Mark) where
   pub rotated : (ys : List Mark) → ys ≡ drop 1 (take (length xs - i) (drop i xs)) ++ take 1 (take (length xs - i) (drop i xs)) →
-    set (putMid i (length xs - i) xs ys) (length xs - 1) b ≡ removed xs i ++ b ∷ []
+      set (putMid i (length xs - i) xs ys) (length xs - 1) b ≡ removed xs i ++ b ∷ []
   rotated ys e =
       let x = getD xs i b in
       let t = drop (suc i) xs in
@@ -66,10 +66,10 @@ module _ (xs : List Mark) (i : ℕ) (h : i < length xs) (b : Mark) where
       let len-t : length t ≡ length xs - suc i = length-drop (suc i) xs in
       let len-ys : length ys ≡ length xs - i = ap length ys-is ∙ (length-append t (x ∷ []) ∙ omega arith) in
       let whole : putMid i (length xs - i) xs ys ≡ take i xs ++ ys =
-        putMid-paste i (length xs - i) xs ys ys (length xs - i) refl refl (sym len-ys) ∙ (paste-all xs i ys (length xs - i) (sym len-ys)
-        ∙ ap (λ (l : List Mark). take i xs ++ l) (ap (λ (l : List Mark). ys ++ l) (drop-all (i + (length xs - i)) xs (omega arith)) ∙ append-nil ys)) in
+      putMid-paste i (length xs - i) xs ys ys (length xs - i) refl refl (sym len-ys) ∙ (paste-all xs i ys (length xs - i) (sym len-ys)
+      ∙ ap (λ (l : List Mark). take i xs ++ l) (ap (λ (l : List Mark). ys ++ l) (drop-all (i + (length xs - i)) xs (omega arith)) ∙ append-nil ys)) in
       let split : putMid i (length xs - i) xs ys ≡ removed xs i ++ x ∷ [] =
-        whole ∙ (ap (λ (l : List Mark). take i xs ++ l) ys-is ∙ sym (append-assoc (take i xs) t (x ∷ []))) in
+      whole ∙ (ap (λ (l : List Mark). take i xs ++ l) ys-is ∙ sym (append-assoc (take i xs) t (x ∷ []))) in
       let len : length (removed xs i) ≡ length xs - 1 = length-append (take i xs) t ∙ omega (arith, length-take-le i xs (omega arith)) in
       ap (λ (l : List Mark). set l (length xs - 1) b) split ∙ set-at (removed xs i) x [] b (length xs - 1) len
 
@@ -95,13 +95,13 @@ module _ (xs ys : List Mark) (n i : ℕ) (b : Mark) (h : i < n) (k : n ≤ lengt
   pub shrunk-front : take (n - 1) (ys ++ drop n xs) ≡ removed (take n xs) i
   shrunk-front =
       let whole : ys ++ drop n xs ≡ removed (take n xs) i ++ (b ∷ drop n xs) =
-        ap (λ (l : List Mark). l ++ drop n xs) e ∙ append-assoc (removed (take n xs) i) (b ∷ []) (drop n xs) in
+      ap (λ (l : List Mark). l ++ drop n xs) e ∙ append-assoc (removed (take n xs) i) (b ∷ []) (drop n xs) in
       ap (λ (l : List Mark). take (n - 1) l) whole ∙ take-at (removed (take n xs) i) (b ∷ drop n xs) (n - 1) shrunk-length
 
   pub shrunk-rest : (size : ℕ) → n ≤ size → drop n xs ≡ replicate (size - n) b → drop (n - 1) (ys ++ drop n xs) ≡ replicate (size - (n - 1)) b
   shrunk-rest size le r =
       let whole : ys ++ drop n xs ≡ removed (take n xs) i ++ (b ∷ drop n xs) =
-        ap (λ (l : List Mark). l ++ drop n xs) e ∙ append-assoc (removed (take n xs) i) (b ∷ []) (drop n xs) in
+      ap (λ (l : List Mark). l ++ drop n xs) e ∙ append-assoc (removed (take n xs) i) (b ∷ []) (drop n xs) in
       let m : suc (size - n) ≡ size - (n - 1) = omega arith in
       ap (λ (l : List Mark). drop (n - 1) l) whole ∙ (drop-at (removed (take n xs) i) (b ∷ drop n xs) (n - 1) shrunk-length
       ∙ (ap (λ (l : List Mark). b ∷ l) r ∙ ap (λ (j : ℕ). replicate j b) m))
@@ -114,7 +114,7 @@ part-front xs ys n e =
 
 -- a run put behind another, which may be none
 pub put-both : (xs ys zs s t : List Mark) (at n m : ℕ) → length s ≡ n → length t ≡ m → at ≤ length xs →
-  ys ≡ paste xs at s n → zs ≡ paste ys (at + n) t m → zs ≡ paste xs at (s ++ t) (n + m)
+    ys ≡ paste xs at s n → zs ≡ paste ys (at + n) t m → zs ≡ paste xs at (s ++ t) (n + m)
 put-both xs ys zs s t at n m e f h p q = let both = paste-paste xs at s t n m (sym e) (sym f) h in cc
 
 pub put-none : (xs : List Mark) (at l f n : ℕ) → n ≡ 0 → xs ≡ paste xs at (places l f n) n

@@ -46,8 +46,13 @@ passed s m = m .mark .place - s .taken
 
 abbrev pub advanced : State → Message → State
 advanced s m =
-    record { drawn = s .drawn; sent = s .sent; taken = m .mark .place + 1; before = s .before;
-      skipped = s .skipped ++ places (m .mark .link) (s .taken) (passed s m) }
+    record {
+      drawn = s .drawn;
+      sent = s .sent;
+      taken = m .mark .place + 1;
+      before = s .before;
+      skipped = s .skipped ++ places (m .mark .link) (s .taken) (passed s m);
+    }
 
 -- its key was put aside, and is taken from there
 abbrev pub recalled : State → Message → State
@@ -64,8 +69,13 @@ left s m = cond (leb 2 (s .drawn)) (m .before - s .taken) 0
 -- what is left of the old link and what the new one passes over is put aside, and the side draws its next key at once
 abbrev pub turned : State → Message → State
 turned s m =
-    record { drawn = s .drawn + 2; sent = 0; taken = m .mark .place + 1; before = s .sent;
-      skipped = s .skipped ++ places (s .drawn - 2) (s .taken) (left s m) ++ places (m .mark .link) 0 (m .mark .place) }
+    record {
+      drawn = s .drawn + 2;
+      sent = 0;
+      taken = m .mark .place + 1;
+      before = s .sent;
+      skipped = s .skipped ++ places (s .drawn - 2) (s .taken) (left s m) ++ places (m .mark .link) 0 (m .mark .place);
+    }
 
 -- may so many places of one link be passed over
 abbrev pub short : ℕ → Bool

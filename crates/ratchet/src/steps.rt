@@ -44,7 +44,14 @@ pub enum Taken {
 fn fresh(drawn: u32) -> Side
     ensures { λ r. ⌜ stateOf r ≡ begun drawn ⌝ }
 {
-    Side { drawn, sent: 0, taken: 0, before: 0, count: 0, marks: [BLANK; 512] }
+    Side {
+        drawn,
+        sent: 0,
+        taken: 0,
+        before: 0,
+        count: 0,
+        marks: [BLANK; 512],
+    }
 }
 
 // The first side as it begins: it has drawn key 1.
@@ -75,8 +82,12 @@ pub fn send(side: Side, text_length: usize) -> Sent
     if side.sent == u32::MAX {
         return Sent::Refused(side, Refusal::Exhausted);
     }
-    let mark = Mark { link: side.drawn - 1, place: side.sent };
-    let message = Message { mark, before: side.before };
+    let mark = Mark {
+        link: side.drawn - 1,
+        place: side.sent,
+    };
+    let before = side.before;
+    let message = Message { mark, before };
     let mut next = side;
     next.sent = side.sent + 1;
     Sent::Sealed(next, message)
@@ -102,7 +113,14 @@ fn take_in_turn(side: Side, message: Message, opens: bool) -> Taken
     let mut slots = side.marks;
     marks::put(&mut slots, side.count, message.mark.link, side.taken, place);
     let count = side.count + passed as usize;
-    Taken::Opened(Side { drawn: side.drawn, sent: side.sent, taken: place + 1, before: side.before, count, marks: slots })
+    Taken::Opened(Side {
+        drawn: side.drawn,
+        sent: side.sent,
+        taken: place + 1,
+        before: side.before,
+        count,
+        marks: slots,
+    })
 }
 
 // Takes a message whose key was put aside, in slot `i`.
@@ -118,7 +136,14 @@ fn take_recalled(side: Side, message: Message, i: usize, opens: bool) -> Taken
     let mut slots = side.marks;
     let count = side.count;
     marks::remove(&mut slots[0..count], i);
-    Taken::Opened(Side { drawn: side.drawn, sent: side.sent, taken: side.taken, before: side.before, count: count - 1, marks: slots })
+    Taken::Opened(Side {
+        drawn: side.drawn,
+        sent: side.sent,
+        taken: side.taken,
+        before: side.before,
+        count: count - 1,
+        marks: slots,
+    })
 }
 
 // How many places are left on the old link when the other says how many it sent on it.
@@ -141,9 +166,21 @@ fn with_new_link(side: Side, message: Message, left: u32) -> [Mark; 512]
     let count = side.count;
     let link = message.mark.link;
     if left > 0 {
-        marks::put(&mut slots, count, side.drawn - 2, side.taken, message.before);
+        marks::put(
+            &mut slots,
+            count,
+            side.drawn - 2,
+            side.taken,
+            message.before,
+        );
     }
-    marks::put(&mut slots, count + left as usize, link, 0, message.mark.place);
+    marks::put(
+        &mut slots,
+        count + left as usize,
+        link,
+        0,
+        message.mark.place,
+    );
     slots
 }
 
@@ -155,7 +192,10 @@ fn take_new(side: Side, message: Message, opens: bool) -> Taken
 {
     let place = message.mark.place;
     let left = left_over(side, message);
-    if left > LONGEST_SKIP || place > LONGEST_SKIP || side.count + left as usize + place as usize > ROOM {
+    if left > LONGEST_SKIP
+        || place > LONGEST_SKIP
+        || side.count + left as usize + place as usize > ROOM
+    {
         return Taken::Refused(side, Refusal::TooMany);
     }
     if !opens {
@@ -166,7 +206,14 @@ fn take_new(side: Side, message: Message, opens: bool) -> Taken
     }
     let slots = with_new_link(side, message, left);
     let count = side.count + left as usize + place as usize;
-    Taken::Opened(Side { drawn: side.drawn + 2, sent: 0, taken: place + 1, before: side.sent, count, marks: slots })
+    Taken::Opened(Side {
+        drawn: side.drawn + 2,
+        sent: 0,
+        taken: place + 1,
+        before: side.sent,
+        count,
+        marks: slots,
+    })
 }
 
 // Is the message on the link that the side takes on, two below its last key, at the next place or after.

@@ -9,7 +9,8 @@ use std::io;
 use std::io::Read;
 use std::io::Write;
 
-const USAGE: &str = "usage: rehearse [FILE]   (a script; from standard input where no FILE is named)";
+const USAGE: &str =
+    "usage: rehearse [FILE]   (a script; from standard input where no FILE is named)";
 
 // The script: the file that is named, or standard input.
 fn read_script(rt: &LibcRuntime) -> io::Result<Option<Vec<u8>>> {

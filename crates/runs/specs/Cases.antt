@@ -49,26 +49,31 @@ cases =
     ∷ record { events = says ∷ says ∷ hears (msg 0 1 0) ∷ hears (msg 0 0 0) ∷ []; then = λ w. holds (w .second .side) 2 0 2 0 [] }
     -- B. The second sends on link 1, and the first takes it: it draws key 3, sends on link 2, and its count before is 2.
     ∷ record {
-        events = says ∷ says ∷ hears (msg 0 1 0) ∷ hears (msg 0 0 0) ∷ answers ∷ back (msg 1 0 0) ∷ [];
-        then = λ w. holds (w .first .side) 3 0 1 2 [] × (message (w .first .side) ≡ msg 2 0 2) }
+      events = says ∷ says ∷ hears (msg 0 1 0) ∷ hears (msg 0 0 0) ∷ answers ∷ back (msg 1 0 0) ∷ [];
+      then = λ w. holds (w .first .side) 3 0 1 2 [] × (message (w .first .side) ≡ msg 2 0 2);
+    }
     -- C. The first is read before it sent anything: all keys of link 0 lie open, and link 1 does.
     ∷ record { events = reads First ∷ []; then = λ w. ((i : ℕ) → exposed (w .readings) 0 i ≡ true) × (linkOpen (w .readings) 1 ≡ true) }
     -- D. After that the second answers, and the first sends on link 2: it is shut.
     ∷ record {
-        events = reads First ∷ says ∷ hears (msg 0 0 0) ∷ answers ∷ back (msg 1 0 0) ∷ says ∷ [];
-        then = λ w. (w .first .left ≡ msg 0 0 0 ∷ msg 2 0 1 ∷ []) × ((i : ℕ) → exposed (w .readings) 2 i ≡ false) }
+      events = reads First ∷ says ∷ hears (msg 0 0 0) ∷ answers ∷ back (msg 1 0 0) ∷ says ∷ [];
+      then = λ w. (w .first .left ≡ msg 0 0 0 ∷ msg 2 0 1 ∷ []) × ((i : ℕ) → exposed (w .readings) 2 i ≡ false);
+    }
     -- E. The second is read in A between the two takes: 0/0 lies open, and 0/1 doesn't.
     ∷ record {
-        events = says ∷ says ∷ hears (msg 0 1 0) ∷ reads Second ∷ hears (msg 0 0 0) ∷ [];
-        then = λ w. (exposed (w .readings) 0 0 ≡ true) × (exposed (w .readings) 0 1 ≡ false) }
+      events = says ∷ says ∷ hears (msg 0 1 0) ∷ reads Second ∷ hears (msg 0 0 0) ∷ [];
+      then = λ w. (exposed (w .readings) 0 0 ≡ true) × (exposed (w .readings) 0 1 ≡ false);
+    }
     -- F. A message comes damaged: it is refused with 5, and nothing is put aside.
     ∷ record {
-        events = says ∷ says ∷ takes Second (msg 0 1 0) false 2 ∷ [];
-        then = λ w. (takeAnswer w Second (msg 0 1 0) false ≡ refused 5) × holds (w .second .side) 0 0 0 0 [] × (w .second .opened ≡ []) }
+      events = says ∷ says ∷ takes Second (msg 0 1 0) false 2 ∷ [];
+      then = λ w. (takeAnswer w Second (msg 0 1 0) false ≡ refused 5) × holds (w .second .side) 0 0 0 0 [] × (w .second .opened ≡ []);
+    }
     -- G. The first stops after its page was written and before the message left: it comes up having sent it, and that place is passed over by the other.
     ∷ record {
-        events = lost ∷ says ∷ hears (msg 0 1 0) ∷ [];
-        then = λ w. (w .first .side .sent ≡ 2) × (w .first .left ≡ msg 0 1 0 ∷ []) × holds (w .second .side) 2 0 2 0 (mark 0 0 ∷ []) }
+      events = lost ∷ says ∷ hears (msg 0 1 0) ∷ [];
+      then = λ w. (w .first .side .sent ≡ 2) × (w .first .left ≡ msg 0 1 0 ∷ []) × holds (w .second .side) 2 0 2 0 (mark 0 0 ∷ []);
+    }
     ∷ []
 
 -- what must hold in each case does

@@ -65,28 +65,21 @@ pub data Comes (es : List Event) (who : Who) (m : Message) : Type 0 where
 pub record Laws (es : List Event) : Type 0 where
   -- from all that was ever read, the key of a message can be worked out exactly if the rule says that it lies open
   pub exactly : (n i : ℕ) → Decides (exposed (readings es) n i) (Knows (stocks (readings es)) (keyAt n i))
-
   -- a message opened before the first reading is shut, whatever is read later
   pub past : (fs : List Event) (who : Who) (m : Message) → readings es ≡ [] → among m (party who (after es) .opened) ≡ true → open? (es ++ fs) m ≡ false
-
   -- once each side has drawn a key after the last reading, the link that the last of these keys begins, and every later one, is shut
   pub heals : (fs : List Event) (n i : ℕ) → Healed es fs → ((who : Who) → drawnBy who (es ++ fs) ≤ suc n) → exposed (readings (es ++ fs)) n i ≡ false
-
   -- and a message of a link begun after that, opened before the next reading, stays shut for good
   pub stays : (fs gs hs : List Event) (who : Who) (m : Message) → Healed es fs → readings (es ++ fs ++ gs) ≡ readings es →
-    ((p : Who) → drawnBy p (es ++ fs) ≤ m .mark .link) → among m (party who (after (es ++ fs ++ gs)) .opened) ≡ true →
-    open? (es ++ fs ++ gs ++ hs) m ≡ false
-
+      ((p : Who) → drawnBy p (es ++ fs) ≤ m .mark .link) → among m (party who (after (es ++ fs ++ gs)) .opened) ≡ true →
+      open? (es ++ fs ++ gs ++ hs) m ≡ false
   -- no two messages are ever sealed with one key, those counted that never left
   pub sealedOnce : NoneTwice (keysOf (after es .first .sealed ++ after es .second .sealed))
-
   -- from its sealing on the sender can't work a message's key out from what it holds; from its opening on neither side can
   pub senderForgets : (fs : List Event) (who : Who) (m : Message) → among m (party who (after es) .sealed) ≡ true → Can who (es ++ fs) m → ⊥
   pub bothForget : (fs : List Event) (who p : Who) (m : Message) → among m (party who (after es) .opened) ≡ true → Can p (es ++ fs) m → ⊥
-
   -- every message that left was opened, or opens now, or is kept out by a limit that it breaks
   pub comes : (who : Who) (m : Message) → among m (party (other who) (after es) .left) ≡ true → Comes es who m
-
   -- no message is opened twice, and no text is handed out twice; what is handed out was opened, what is opened was sent by the other, and what left was sealed
   pub openedOnce : (who : Who) → NoneTwice (keysOf (party who (after es) .opened))
   pub handedOnce : (who : Who) → NoneTwice (keysOf (party who (after es) .handed))

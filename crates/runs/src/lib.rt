@@ -1,3 +1,3 @@
 // Runs: the two sides together, over every list of sends, deliveries, readings and stops, and what lies open after them.
-pub mod types;
 pub mod laws;
+pub mod types;

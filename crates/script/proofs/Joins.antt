@@ -36,7 +36,7 @@ marks-more bs ms i d h = joined-more spacedMark bs (take i ms) (getD ms i d) ∙
 
 -- a delivery, put together from its parts
 pub delivered-rest : (rest : List ℕ) (e n : ℕ) (r : Option Command) → e ≡ spaceAt rest → Some n ≡ numberOf (take e rest) →
-  r ≡ flipOf n (take (length rest - e) (drop e rest)) → r ≡ deliverRest rest
+    r ≡ flipOf n (take (length rest - e) (drop e rest)) → r ≡ deliverRest rest
 delivered-rest rest e n r at number flip =
     flip ∙ (ap (flipOf n) (take-rest rest e) ∙ (ap (λ (o : Option ℕ). deliverNumber o (drop e rest)) number
     ∙ ap (λ (i : ℕ). deliverNumber (numberOf (take i rest)) (drop i rest)) at))
@@ -46,7 +46,7 @@ delivered-line line r b e = e ∙ (ap deliverRest (take-rest line 8) ∙ sym (co
 
 -- a text that was read from a line is the one that is sent
 pub sent-line : (who : Who) (raw text : List ℕ) (p q : Player) (o u : List ℕ) (r : Sending) → Some text ≡ unescaped raw → SendPlayed who text p q r →
-  u ≡ o ++ sendingLine (vec-len (q .letters)) r → SendLine who raw p q o u played.Done
+    u ≡ o ++ sendingLine (vec-len (q .letters)) r → SendLine who raw p q o u played.Done
 sent-line who raw text p q o u r e s out =
     let line = out ∙ ap (λ (n : ℕ). o ++ sendingLine n r) (sym (letters-length q)) in
     subst (λ (t : Option (List ℕ)). SendText t who p q o u played.Done) e (refl, (r, record { sent = s; out = line }))

@@ -2,14 +2,14 @@
 ghost use mathlib.Core.Path.{_≡_};
 ghost use lib.ListN.{length};
 ghost use Rattle.script.specs.Commands.{quietOf, readOf, sendOf, sendWith, stopAt, stopEither, stopOf, stopWith, deliverFlipped, deliverRest, deliverOf, flipOf, parsed};
-use runs::types::Who;
-use stage::types::Stop;
 use notation::words::begins;
 use notation::words::is_blank;
 use notation::words::is_word;
 use notation::words::number_before;
 use notation::words::number_behind;
 use notation::words::space;
+use runs::types::Who;
+use stage::types::Stop;
 
 // What a line asks for.
 #[derive(Clone, Copy)]
@@ -32,7 +32,11 @@ fn quiet_line(line: &[u8]) -> Option<Command>
     if is_blank(line) || begins(line, b"#") {
         return Some(Command::Nothing);
     }
-    if is_word(line, b"show") { Some(Command::Show) } else { None }
+    if is_word(line, b"show") {
+        Some(Command::Show)
+    } else {
+        None
+    }
 }
 
 // `read S`
@@ -42,7 +46,11 @@ fn read_line(line: &[u8]) -> Option<Command>
     if is_word(line, b"read first") {
         return Some(Command::Read(Who::First));
     }
-    if is_word(line, b"read second") { Some(Command::Read(Who::Second)) } else { None }
+    if is_word(line, b"read second") {
+        Some(Command::Read(Who::Second))
+    } else {
+        None
+    }
 }
 
 // `send S`, alone or with a space and a text behind it.
@@ -56,7 +64,11 @@ fn send_with(line: &[u8], words: &[u8], from: Who) -> Option<Command>
     if line.len() == n {
         return Some(Command::Send(from, n));
     }
-    if line[n] == 32 { Some(Command::Send(from, n + 1)) } else { None }
+    if line[n] == 32 {
+        Some(Command::Send(from, n + 1))
+    } else {
+        None
+    }
 }
 
 // `send S TEXT`
@@ -97,8 +109,18 @@ fn stop_either(line: &[u8], before: &[u8], after: &[u8], who: Who) -> Option<Com
 fn stop_line(line: &[u8]) -> Option<Command>
     ensures { λ r. ⌜ r ≡ stopOf (now (line .entry)) ⌝ }
 {
-    let first = stop_either(line, b"stop first before ", b"stop first after ", Who::First);
-    first.or(stop_either(line, b"stop second before ", b"stop second after ", Who::Second))
+    let first = stop_either(
+        line,
+        b"stop first before ",
+        b"stop first after ",
+        Who::First,
+    );
+    first.or(stop_either(
+        line,
+        b"stop second before ",
+        b"stop second after ",
+        Who::Second,
+    ))
 }
 
 // A delivery with a bit turned, if that has a number.

@@ -7,15 +7,15 @@ ghost use Rattle.std.specs.Vec.{made};
 ghost use Rattle.std.specs.Written.{decimal};
 ghost use Rattle.ratchet.specs.State.{stateOf};
 ghost use Rattle.script.specs.Output.{markedLine, numberedLine, openedLine, nameOf, readLine, sendingLine, takingLine, textPart, linkText, spacedMark, marksText, labelled, keysText, linksText, sideLine};
+use notation::faults::Fault;
+use notation::faults::FaultFromAlloc;
+use notation::text::put_text;
 use ratchet::sides::Side;
 use ratchet::types::Mark;
 use runs::types::Who;
-use std::alloc::Global;
-use notation::text::put_text;
-use notation::faults::Fault;
-use notation::faults::FaultFromAlloc;
 use stage::types::Sending;
 use stage::types::Taking;
+use std::alloc::Global;
 
 // Appends some bytes.
 pub fn put(out: &mut Vec<u8>, bytes: &[u8]) -> Result<(), Fault>
@@ -26,7 +26,13 @@ pub fn put(out: &mut Vec<u8>, bytes: &[u8]) -> Result<(), Fault>
 }
 
 // `M L/P WORD`
-fn put_marked(heap: Global, out: &mut Vec<u8>, number: usize, mark: Mark, word: &str) -> Result<(), Fault>
+fn put_marked(
+    heap: Global,
+    out: &mut Vec<u8>,
+    number: usize,
+    mark: Mark,
+    word: &str,
+) -> Result<(), Fault>
     ensures { λ r. ⌜ made r (λ _. vec-items (now (out .exit)) ≡ vec-items (now (out .entry)) ++ markedLine number mark (now (word .entry))) ⌝ }
 {
     let link = mark.link;
@@ -44,7 +50,12 @@ fn put_numbered(heap: Global, out: &mut Vec<u8>, number: usize, word: &str) -> R
 }
 
 // What a send came to; `number` is the message's, if there is one.
-pub fn put_sending(heap: Global, out: &mut Vec<u8>, number: usize, outcome: Sending) -> Result<(), Fault>
+pub fn put_sending(
+    heap: Global,
+    out: &mut Vec<u8>,
+    number: usize,
+    outcome: Sending,
+) -> Result<(), Fault>
     ensures { λ r. ⌜ made r (λ _. vec-items (now (out .exit)) ≡ vec-items (now (out .entry)) ++ sendingLine number outcome) ⌝ }
 {
     match outcome {
@@ -83,7 +94,13 @@ fn put_opened(heap: Global, out: &mut Vec<u8>, number: usize, text: &[u8]) -> Re
 }
 
 // What taking message `number`, with this text, came to.
-pub fn put_taking(heap: Global, out: &mut Vec<u8>, number: usize, text: &[u8], outcome: Taking) -> Result<(), Fault>
+pub fn put_taking(
+    heap: Global,
+    out: &mut Vec<u8>,
+    number: usize,
+    text: &[u8],
+    outcome: Taking,
+) -> Result<(), Fault>
     ensures { λ r. ⌜ made r (λ _. vec-items (now (out .exit)) ≡ vec-items (now (out .entry)) ++ takingLine number (now (text .entry)) outcome) ⌝ }
 {
     match outcome {
@@ -126,7 +143,13 @@ fn put_number(heap: Global, out: &mut Vec<u8>, n: usize) -> Result<(), Fault>
 }
 
 // A link and a place on it, or `-` where there is no such link: the side has drawn fewer than `least` keys.
-fn put_link(heap: Global, out: &mut Vec<u8>, drawn: u32, least: u32, place: u32) -> Result<(), Fault>
+fn put_link(
+    heap: Global,
+    out: &mut Vec<u8>,
+    drawn: u32,
+    least: u32,
+    place: u32,
+) -> Result<(), Fault>
     ensures { λ r. ⌜ made r (λ _. vec-items (now (out .exit)) ≡ vec-items (now (out .entry)) ++ linkText drawn least place) ⌝ }
 {
     if drawn < least {

@@ -9,18 +9,18 @@ ghost use Rattle.script.specs.Commands.{parsed};
 ghost use Rattle.script.specs.Output.{takingLine};
 ghost use Rattle.stage.specs.Players.{isThere, numbered};
 ghost use Rattle.script.specs.Played.{SendLine, DeliverLine, PlanLine, ReadLine, LinePlayed};
-use runs::types::Who;
-use std::alloc::Global;
 use crate::commands;
 use crate::commands::Command;
 use crate::output;
-use stage::player::Player;
-use notation::text;
-use stage::types::Delivery;
 use notation::faults::Fault;
+use notation::text;
+use runs::types::Who;
+use stage::player::Player;
+use stage::types::Delivery;
 use stage::types::Planning;
 use stage::types::Stop;
 use stage::types::Taking;
+use std::alloc::Global;
 
 // Why a line is no good.
 #[derive(Clone, Copy)]
@@ -45,7 +45,13 @@ pub enum Played {
 }
 
 // `send S TEXT`; the text as the line writes it.
-fn play_send(heap: Global, player: &mut Player, from: Who, raw: &[u8], out: &mut Vec<u8>) -> Result<Played, Fault>
+fn play_send(
+    heap: Global,
+    player: &mut Player,
+    from: Who,
+    raw: &[u8],
+    out: &mut Vec<u8>,
+) -> Result<Played, Fault>
     ensures { λ r. ⌜ made r (SendLine from (now (raw .entry)) (now (player .entry)) (now (player .exit)) (vec-items (now (out .entry))) (vec-items (now (out .exit)))) ⌝ }
 {
     let Some(text) = text::unescape(heap, raw)? else {
@@ -57,7 +63,13 @@ fn play_send(heap: Global, player: &mut Player, from: Who, raw: &[u8], out: &mut
 }
 
 // Prints what taking message `number` came to.
-fn put_taking(heap: Global, player: &Player, number: usize, outcome: Taking, out: &mut Vec<u8>) -> Result<(), Fault>
+fn put_taking(
+    heap: Global,
+    player: &Player,
+    number: usize,
+    outcome: Taking,
+    out: &mut Vec<u8>,
+) -> Result<(), Fault>
     ensures { λ r. ⌜ made r (λ _. isThere number (now (player .entry)) ≡ true → vec-items (now (out .exit)) ≡ vec-items (now (out .entry)) ++ takingLine number (numbered number (now (player .entry)) .text) outcome) ⌝ }
 {
     if number == 0 || number > player.letters.len() {
@@ -69,7 +81,13 @@ fn put_taking(heap: Global, player: &Player, number: usize, outcome: Taking, out
 }
 
 // `deliver M`, with a bit turned if one is named.
-fn play_deliver(heap: Global, player: &mut Player, number: usize, flip: Option<usize>, out: &mut Vec<u8>) -> Result<Played, Fault>
+fn play_deliver(
+    heap: Global,
+    player: &mut Player,
+    number: usize,
+    flip: Option<usize>,
+    out: &mut Vec<u8>,
+) -> Result<Played, Fault>
     ensures { λ r. ⌜ made r (DeliverLine number flip (now (player .entry)) (now (player .exit)) (vec-items (now (out .entry))) (vec-items (now (out .exit)))) ⌝ }
 {
     match player.deliver(number, flip)? {
@@ -96,7 +114,12 @@ fn play_plan(player: &mut Player, who: Who, stop: Stop) -> Result<Played, Fault>
 }
 
 // `read S`
-fn play_read(heap: Global, player: &mut Player, who: Who, out: &mut Vec<u8>) -> Result<Played, Fault>
+fn play_read(
+    heap: Global,
+    player: &mut Player,
+    who: Who,
+    out: &mut Vec<u8>,
+) -> Result<Played, Fault>
     ensures { λ r. ⌜ made r (ReadLine who (now (player .entry)) (now (player .exit)) (vec-items (now (out .entry))) (vec-items (now (out .exit)))) ⌝ }
 {
     player.read(who)?;
@@ -131,7 +154,12 @@ fn behind(line: &[u8], at: usize) -> &[u8]
 }
 
 // Plays one line of a script.
-pub fn play(heap: Global, player: &mut Player, line: &[u8], out: &mut Vec<u8>) -> Result<Played, Fault>
+pub fn play(
+    heap: Global,
+    player: &mut Player,
+    line: &[u8],
+    out: &mut Vec<u8>,
+) -> Result<Played, Fault>
     ensures { λ r. ⌜ made r (LinePlayed (parsed (now (line .entry))) (now (line .entry)) (now (player .entry)) (now (player .exit)) (vec-items (now (out .entry))) (vec-items (now (out .exit)))) ⌝ }
 {
     let Some(command) = commands::parse(line) else {
@@ -143,7 +171,13 @@ pub fn play(heap: Global, player: &mut Player, line: &[u8], out: &mut Vec<u8>) -
         Command::Read(who) => play_read(heap, player, who, out),
         Command::Plan(who, stop) => play_plan(player, who, stop),
         Command::Deliver(number, None) => play_deliver(heap, player, number as usize, None, out),
-        Command::Deliver(number, Some(bit)) => play_deliver(heap, player, number as usize, Some(bit as usize), out),
+        Command::Deliver(number, Some(bit)) => play_deliver(
+            heap,
+            player,
+            number as usize,
+            Some(bit as usize),
+            out,
+        ),
         Command::Send(from, at) => play_send(heap, player, from, behind(line, at), out),
     }
 }

@@ -10,17 +10,17 @@ ghost use Rattle.script.specs.Output.{shown};
 ghost use Rattle.stage.specs.Players.{worldOf};
 ghost use Rattle.script.specs.Views.{markOf, opennessOf, showOf, endOf};
 ghost use Rattle.script.specs.Whole.{Moved, Lawful};
-use exposure::rows;
-use ratchet::types::Mark;
-use runs::types::Who;
-use std::alloc::Global;
 use crate::output;
 use crate::play::BadLine;
 use crate::play::Played;
 use crate::play::play;
+use exposure::rows;
+use notation::faults::Fault;
+use ratchet::types::Mark;
+use runs::types::Who;
 use stage::player::Letter;
 use stage::player::Player;
-use notation::faults::Fault;
+use std::alloc::Global;
 
 // What a `show` shows.
 #[derive(Clone, Copy)]
@@ -85,7 +85,13 @@ fn put_openness(heap: Global, player: &Player, out: &mut Vec<u8>) -> Result<(), 
 }
 
 // What a `show` on this line prints.
-fn put_show(heap: Global, player: &Player, view: View, number: usize, out: &mut Vec<u8>) -> Result<(), Fault>
+fn put_show(
+    heap: Global,
+    player: &Player,
+    view: View,
+    number: usize,
+    out: &mut Vec<u8>,
+) -> Result<(), Fault>
     ensures { λ r. ⌜ made r (λ _. vec-items (now (out .exit)) ≡ vec-items (now (out .entry)) ++ showOf view number (now (player .entry))) ⌝ }
 {
     match view {
@@ -99,7 +105,13 @@ fn put_show(heap: Global, player: &Player, view: View, number: usize, out: &mut 
 }
 
 // Plays a line; what it prints is kept only where the sides are viewed.
-fn play_viewed(heap: Global, player: &mut Player, view: View, line: &[u8], out: &mut Vec<u8>) -> Result<Played, Fault>
+fn play_viewed(
+    heap: Global,
+    player: &mut Player,
+    view: View,
+    line: &[u8],
+    out: &mut Vec<u8>,
+) -> Result<Played, Fault>
     ensures { λ r. ⌜ made r (λ _. Moved (worldOf (now (player .entry))) (worldOf (now (player .exit)))) ⌝ }
 {
     match view {
@@ -112,7 +124,13 @@ fn play_viewed(heap: Global, player: &mut Player, view: View, line: &[u8], out: 
 }
 
 // Plays a script to its end, or to its first bad line.
-pub fn play_all(heap: Global, player: &mut Player, view: View, script: &[u8], out: &mut Vec<u8>) -> Result<Ending, Fault>
+pub fn play_all(
+    heap: Global,
+    player: &mut Player,
+    view: View,
+    script: &[u8],
+    out: &mut Vec<u8>,
+) -> Result<Ending, Fault>
     ensures { λ r. ⌜ made r (λ _. Lawful (worldOf (now (player .entry))) (worldOf (now (player .exit)))) ⌝ }
 {
     let mut at = 0usize;

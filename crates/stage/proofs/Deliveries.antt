@@ -49,25 +49,31 @@ withDevice Second d p = record { first = p .first; second = d; readings = p .rea
 
 -- what one device did to a message of the other, as a step of the world
 pub delivered : (from : Who) (m : Message) (whole : Bool) (p : Player) (e : Device) (r : Taking) → among m (party from (worldOf p) .left) ≡ true →
-  TakeDone m whole (device (other from) p) e r → Delivered from m whole p (withDevice (other from) e p) r
+    TakeDone m whole (device (other from) p) e r → Delivered from m whole p (withDevice (other from) e p) r
 delivered First m whole p e r left t =
     let same = and-true whole (among m (partyOf (p .first) .left)) left in
     let u = subst (λ (b : Bool). TakeDone m b (p .second) e r) same t in
     let a = take (whole && among m (partyOf (p .first) .left)) (stateOf (p .second .page)) m in
     record {
       world = ap (λ (q : Party). withParty Second q (worldOf p)) (u .party ∙ two-effects (dueNext (planOf (p .second))) a m (partyOf (p .second)));
-      plan = u .plan; told = u .told; letters = refl }
+      plan = u .plan;
+      told = u .told;
+      letters = refl;
+    }
 delivered Second m whole p e r left t =
     let same = and-true whole (among m (partyOf (p .second) .left)) left in
     let u = subst (λ (b : Bool). TakeDone m b (p .first) e r) same t in
     let a = take (whole && among m (partyOf (p .second) .left)) (stateOf (p .first .page)) m in
     record {
       world = ap (λ (q : Party). withParty First q (worldOf p)) (u .party ∙ two-effects (dueNext (planOf (p .first))) a m (partyOf (p .first)));
-      plan = u .plan; told = u .told; letters = refl }
+      plan = u .plan;
+      told = u .told;
+      letters = refl;
+    }
 
 -- the same where the sender is known only to be w
 pub handed-over : (from w : Who) → from ≡ w → (m : Message) (whole : Bool) (p : Player) (e : Device) (r : Result Taking Fault) →
-  among m (party from (worldOf p) .left) ≡ true → made r (TakeDone m whole (device (other w) p) e) → made r (Delivered from m whole p (withDevice (other w) e p))
+    among m (party from (worldOf p) .left) ≡ true → made r (TakeDone m whole (device (other w) p) e) → made r (Delivered from m whole p (withDevice (other w) e p))
 handed-over from w is m whole p e r left h =
     let l = subst (λ (x : Who). among m (party x (worldOf p) .left) ≡ true) is left in
     subst (λ (x : Who). made r (Delivered x m whole p (withDevice (other w) e p))) (sym is)

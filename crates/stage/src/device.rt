@@ -1,9 +1,9 @@
 // One side with its file and its history, and the order of what a step does outside its memory: the page first.
 ghost use mathlib.Core.Path.{_≡_};
 ghost use Rattle.ratchet.specs.State.{stateOf};
+use crate::types::Stop;
 use ratchet::sides::Side;
 use ratchet::types::Message;
-use crate::types::Stop;
 
 #[derive(Drop)]
 pub struct Device {

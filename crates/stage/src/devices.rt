@@ -8,21 +8,21 @@ ghost use Rattle.ratchet.specs.State.{stateOf};
 ghost use Rattle.runs.specs.World.{among};
 ghost use Rattle.stage.specs.Devices.{partyOf, planOf, SendDone, TakeDone};
 ghost use Rattle.stage.specs.Plan.{dueNext, kept, Planned};
+use crate::device::Device;
+use crate::searches;
+use crate::types::Due;
+use crate::types::Planning;
+use crate::types::Sending;
+use crate::types::Stop;
+use crate::types::Taking;
+use notation::faults::Fault;
+use notation::faults::FaultFromUnplaced;
 use ratchet::sides::Side;
 use ratchet::steps;
 use ratchet::steps::Sent;
 use ratchet::steps::Taken;
 use ratchet::types::Message;
 use std::alloc::Global;
-use crate::device::Device;
-use crate::searches;
-use crate::types::Due;
-use notation::faults::Fault;
-use notation::faults::FaultFromUnplaced;
-use crate::types::Planning;
-use crate::types::Sending;
-use crate::types::Stop;
-use crate::types::Taking;
 
 impl Device {
     // A side that begins.
@@ -79,7 +79,11 @@ impl Device {
             return Due::Goes;
         };
         let stop = self.stops.remove(i);
-        if stop.after { Due::StopsAfter } else { Due::StopsBefore }
+        if stop.after {
+            Due::StopsAfter
+        } else {
+            Due::StopsBefore
+        }
     }
 
     // Sends a text of so many bytes; the plan may have the side stop before its write, or after it.

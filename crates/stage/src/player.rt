@@ -1,8 +1,8 @@
 // A rehearsal under way: the two sides, what was read of them, and every message sent with its text.
+use crate::device::Device;
 use ratchet::sides::Side;
 use ratchet::types::Message;
 use runs::types::Who;
-use crate::device::Device;
 
 // A message that was sealed, with its text.
 #[derive(Drop)]

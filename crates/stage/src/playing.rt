@@ -10,21 +10,21 @@ ghost use Rattle.runs.specs.World.{start, step, reads, among, party};
 ghost use Rattle.stage.specs.Plan.{Planned};
 ghost use Rattle.stage.specs.Devices.{planOf};
 ghost use Rattle.stage.specs.Players.{worldOf, lettersOf, Post, postOf, bitIsThere, device, SendPlayed, Delivered, DeliveryIs, Looked};
+use crate::device::Device;
+use crate::player::Letter;
+use crate::player::Player;
+use crate::types::Delivery;
+use crate::types::Planning;
+use crate::types::Sending;
+use crate::types::Stop;
+use crate::types::Taking;
+use notation::faults::Fault;
+use notation::faults::FaultFromUnplaced;
 use ratchet::sides::Side;
 use ratchet::steps;
 use ratchet::types::Message;
 use runs::types::Who;
 use std::alloc::Global;
-use crate::device::Device;
-use crate::player::Letter;
-use crate::player::Player;
-use crate::types::Delivery;
-use notation::faults::Fault;
-use notation::faults::FaultFromUnplaced;
-use crate::types::Planning;
-use crate::types::Sending;
-use crate::types::Stop;
-use crate::types::Taking;
 
 // A reading is noted behind the others.
 fn keep_reading(readings: &mut Vec<Side>, side: Side) -> Result<(), Fault>
@@ -86,8 +86,22 @@ impl Player {
             Who::Second => self.second.send(text.len())?,
         };
         match outcome {
-            Sending::Sent(message) => keep_letter(&mut self.letters, Letter { from, message, text })?,
-            Sending::Lost(message) => keep_letter(&mut self.letters, Letter { from, message, text })?,
+            Sending::Sent(message) => keep_letter(
+                &mut self.letters,
+                Letter {
+                    from,
+                    message,
+                    text,
+                },
+            )?,
+            Sending::Lost(message) => keep_letter(
+                &mut self.letters,
+                Letter {
+                    from,
+                    message,
+                    text,
+                },
+            )?,
             Sending::Stopped => {}
             Sending::Refused(_) => {}
         }

@@ -7,8 +7,8 @@ ghost use Rattle.std.specs.shelf.Lists.{removed};
 ghost use Rattle.runs.specs.World.{among};
 ghost use Rattle.stage.specs.Plan.{due, dueOf, kept, noStop};
 ghost use Rattle.stage.specs.declared.types.Due.the-variants.{Goes};
-use ratchet::types::Message;
 use crate::types::Stop;
+use ratchet::types::Message;
 
 // Is a message among some.
 pub fn holds(messages: &[Message], message: Message) -> bool

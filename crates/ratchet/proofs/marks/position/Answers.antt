@@ -15,10 +15,11 @@ pub returns-then-is : need.returns-then-is
 returns-then-is c =
     let m = c .args .mark in
     let test = λ (x : Mark). sameMark x m in
-    let here = sym (c .is .ensures) ∙ c .if-is .taken in
-    (c .loop-i-test .taken,
+    let here = sym (c .is .ensures) ∙ c .if-is .taken in (
+      c .loop-i-test .taken,
       finds.found test (has m) (has-nil m) (has-step m) (c .args .marks .now) (c .loop-i .i) blank (c .loop-i-test .taken) here,
-      finds.taken-out test (has m) (has-nil m) (has-step m) (without m) (without-step m) (c .args .marks .now) (c .loop-i .i) blank (c .loop-i-test .taken) (c .loop-i .inv) here)
+      finds.taken-out test (has m) (has-nil m) (has-step m) (without m) (without-step m) (c .args .marks .now) (c .loop-i .i) blank (c .loop-i-test .taken) (c .loop-i .inv) here,
+    )
 
 pub loop-i-again : need.loop-i-again
 loop-i-again c =

@@ -18,4 +18,5 @@ returns-in-Some c =
     let found : has (m .mark) (take (side .count) (side .marks)) ≡ true = cc in
     record {
       answer = c .take-recalled .ensures .answer ∙ sym (take-recalled (c .args .opens) (stateOf side) m turn found);
-      values = c .take-recalled .ensures .values }
+      values = c .take-recalled .ensures .values;
+    }

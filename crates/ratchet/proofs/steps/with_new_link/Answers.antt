@@ -23,12 +23,13 @@ returns c =
     let z : m .mark .place - 0 ≡ m .mark .place = omega arith in
     let put = c .put-2 .ensures in
     let both = λ (ys : List Mark) (e : ys ≡ paste (side .marks) (side .count) old left) (f : c .put-2 .last .slots ≡ paste ys (side .count + left) new (m .mark .place)).
-      put-both (side .marks) ys (c .put-2 .last .slots) old new (side .count) left (m .mark .place) (length-places _ _ _) (length-places _ _ _) (omega arith) e f in
+    put-both (side .marks) ys (c .put-2 .last .slots) old new (side .count) left (m .mark .place) (length-places _ _ _) (length-places _ _ _) (omega arith) e f in
     elim (c .if-left-gt0 .came) [
-      then-left-gt0 w ↦
-        let n : m .before - side .taken ≡ left = grind (arith, tells, c .pre .counted) in
-        let first = w .put .ensures in
-        both (c .if-left-gt0 .slots) (cc) (cc)
-    | else-left-gt0 w ↦
-        let none = put-none (side .marks) (side .count) (side .drawn - 2) (side .taken) left (omega arith) in
-        both (c .if-left-gt0 .slots) (cc) (cc) ]
+      | then-left-gt0 w ↦
+          let n : m .before - side .taken ≡ left = grind (arith, tells, c .pre .counted) in
+          let first = w .put .ensures in
+          both (c .if-left-gt0 .slots) (cc) (cc)
+      | else-left-gt0 w ↦
+          let none = put-none (side .marks) (side .count) (side .drawn - 2) (side .taken) left (omega arith) in
+          both (c .if-left-gt0 .slots) (cc) (cc)
+    ]

@@ -16,8 +16,9 @@ returns-then-number-eq0 c = λ there.
     let p = c .args .player .now in
     let n = c .args .number in
     absurd (elim (c .then-number-eq0 .came) [
-      then-number-eq0·by·then-number-eq0 w ↦ both-ways (isThere n p) (not-there p n (inl (w .if-number-eq0 .taken))) there
-    | then-number-eq0·by·else-number-eq0·then-number-len w ↦ both-ways (isThere n p) (not-there p n (inr (omega arith))) there ])
+      | then-number-eq0·by·then-number-eq0 w ↦ both-ways (isThere n p) (not-there p n (inl (w .if-number-eq0 .taken))) there
+      | then-number-eq0·by·else-number-eq0·then-number-len w ↦ both-ways (isThere n p) (not-there p n (inr (omega arith))) there
+    ])
 
 pub returns : need.returns
 returns c = λ there.

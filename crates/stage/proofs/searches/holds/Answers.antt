@@ -13,7 +13,7 @@ pub returns-then-is : need.returns-then-is
 returns-then-is c =
     let m = c .args .message in
     sym (finds.found (λ (x : Message). sameMessage x m) (among m) (among-nil m) (among-step m) (c .args .messages .now) (c .loop-x .x-index) noMessage (c .loop-x-test .taken)
-      (sym (c .is .ensures) ∙ c .if-is .taken))
+    (sym (c .is .ensures) ∙ c .if-is .taken))
 
 pub loop-x-again : need.loop-x-again
 loop-x-again c =

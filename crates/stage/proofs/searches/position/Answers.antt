@@ -18,10 +18,11 @@ returns-then-x-write c =
     let test = λ (x : Stop). eqb (x .write) n in
     let stops = c .args .stops .now in
     let here = eq-eqb _ _ (c .if-x-write .taken) in
-    let within = c .loop-i-test .taken in
-    (within,
+    let within = c .loop-i-test .taken in (
+      within,
       finds.value-found test (planned n) (planned-nil n) (planned-step n) dueOf (due n) (due-step n) stops (c .loop-i .i) noStop within (c .loop-i .inv) here,
-      finds.taken-out test (planned n) (planned-nil n) (planned-step n) (kept n) (kept-step n) stops (c .loop-i .i) noStop within (c .loop-i .inv) here)
+      finds.taken-out test (planned n) (planned-nil n) (planned-step n) (kept n) (kept-step n) stops (c .loop-i .i) noStop within (c .loop-i .inv) here,
+    )
 
 pub loop-i-again : need.loop-i-again
 loop-i-again c =
@@ -33,6 +34,7 @@ pub returns : need.returns
 returns c =
     let n = c .args .write in
     let test = λ (x : Stop). eqb (x .write) n in
-    let all = finds.never test (planned n) (planned-nil n) (planned-step n) (c .args .stops .now) (c .loop-i .i) (c .loop-i-test .left) (c .loop-i .inv) in
-    (finds.value-never test (planned n) (planned-nil n) (planned-step n) dueOf (due n) (due-step n) (c .args .stops .now) all ∙ due-nil n,
-      finds.left-alone test (planned n) (planned-nil n) (planned-step n) (kept n) (kept-nil n) (kept-step n) (c .args .stops .now) all)
+    let all = finds.never test (planned n) (planned-nil n) (planned-step n) (c .args .stops .now) (c .loop-i .i) (c .loop-i-test .left) (c .loop-i .inv) in (
+      finds.value-never test (planned n) (planned-nil n) (planned-step n) dueOf (due n) (due-step n) (c .args .stops .now) all ∙ due-nil n,
+      finds.left-alone test (planned n) (planned-nil n) (planned-step n) (kept n) (kept-nil n) (kept-step n) (c .args .stops .now) all,
+    )

@@ -1,3 +1,4 @@
 pub mod Escapes
 pub mod Decimals
 pub mod Words
+pub mod Laws

@@ -3,3 +3,4 @@ pub mod faults;
 pub mod numbers;
 pub mod text;
 pub mod words;
+pub mod laws;

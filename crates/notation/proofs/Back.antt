@@ -42,7 +42,7 @@ hex-back (suc (suc (suc (suc (suc (suc (suc (suc (suc (suc (suc (suc (suc (suc (
 
 -- two digits behind \x
 escape-back : (b : ℕ) → b < 256 → (t rest : List ℕ) →
-  folded scan (record { escape = Hex; text = t }) (hexDigit (b / 16) ∷ hexDigit (b % 16) ∷ rest) ≡ folded scan (record { escape = Plain; text = t ++ b ∷ [] }) rest
+    folded scan (record { escape = Hex; text = t }) (hexDigit (b / 16) ∷ hexDigit (b % 16) ∷ rest) ≡ folded scan (record { escape = Plain; text = t ++ b ∷ [] }) rest
 escape-back b h t rest =
     let high = hex-back (b / 16) (omega arith) in
     let low = hex-back (b % 16) (omega arith) in
@@ -53,11 +53,11 @@ escape-back b h t rest =
     ∙ ap (λ (x : ℕ). folded scan (record { escape = Plain; text = t ++ x ∷ [] }) rest) value))
 
 byte-back : (b : ℕ) → b < 256 → (t rest : List ℕ) →
-  folded scan (record { escape = Plain; text = t }) (escapedByte b ++ rest) ≡ folded scan (record { escape = Plain; text = t ++ b ∷ [] }) rest
+    folded scan (record { escape = Plain; text = t }) (escapedByte b ++ rest) ≡ folded scan (record { escape = Plain; text = t ++ b ∷ [] }) rest
 byte-back b h t rest = go (cases-bool (hidden b))
   where
     go : (hidden b ≡ true) ⊎ (hidden b ≡ false) →
-      folded scan (record { escape = Plain; text = t }) (escapedByte b ++ rest) ≡ folded scan (record { escape = Plain; text = t ++ b ∷ [] }) rest
+        folded scan (record { escape = Plain; text = t }) (escapedByte b ++ rest) ≡ folded scan (record { escape = Plain; text = t ++ b ∷ [] }) rest
     go (inl e) =
         ap (λ (l : List ℕ). folded scan (record { escape = Plain; text = t }) (l ++ rest)) (cond-true (hidden b) _ _ e)
         ∙ (ap (λ (l : List ℕ). folded scan (record { escape = Hex; text = l ++ [] }) (hexDigit (b / 16) ∷ hexDigit (b % 16) ∷ rest)) (append-nil t)
@@ -94,9 +94,10 @@ pub numbers-read-back : Numbers-read-back
 unfolding Reads
 numbers-read-back n h =
     let r = decimal-by-steps Reads
-      (λ m k. λ l. (digit-back m l 0 m k (omega arith), refl))
-      (λ m ds k ih. λ l.
-        (folded-push digitAfter (Some 0) ds (48 + m % 10) ∙ (ap (λ (o : Option ℕ). digitAfter o (48 + m % 10)) (ih (omega arith) .0) ∙ digit-back m l (m / 10) (m % 10) (omega arith) (omega arith)),
-          reads-more ds (48 + m % 10)))
-      n (omega arith) h in
+    (λ m k. λ l. (digit-back m l 0 m k (omega arith), refl))
+    (λ m ds k ih. λ l. (
+      folded-push digitAfter (Some 0) ds (48 + m % 10) ∙ (ap (λ (o : Option ℕ). digitAfter o (48 + m % 10)) (ih (omega arith) .0) ∙ digit-back m l (m / 10) (m % 10) (omega arith) (omega arith)),
+      reads-more ds (48 + m % 10),
+    ))
+    n (omega arith) h in
     r .1 ∙ r .0

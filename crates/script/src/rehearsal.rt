@@ -16,6 +16,7 @@ use crate::play::Played;
 use crate::play::play;
 use exposure::rows;
 use notation::faults::Fault;
+use notation::faults::FaultFromUnplaced;
 use ratchet::types::Mark;
 use runs::types::Who;
 use stage::player::Letter;
@@ -95,7 +96,10 @@ fn put_show(
     ensures { λ r. ⌜ made r (λ _. vec-items (now (out .exit)) ≡ vec-items (now (out .entry)) ++ showOf view number (now (player .entry))) ⌝ }
 {
     match view {
-        View::Sides => put_sides(heap, player, out),
+        View::Sides => {
+            put_sides(heap, player, out)?;
+            Ok(())
+        }
         View::Openness => {
             output::put_line_number(heap, out, number)?;
             put_openness(heap, player, out)?;
@@ -115,10 +119,14 @@ fn play_viewed(
     ensures { λ r. ⌜ made r (λ _. Moved (worldOf (now (player .entry))) (worldOf (now (player .exit)))) ⌝ }
 {
     match view {
-        View::Sides => play(heap, player, line, out),
+        View::Sides => {
+            let played = play(heap, player, line, out)?;
+            Ok(played)
+        }
         View::Openness => {
             let mut said = Vec::new(heap);
-            play(heap, player, line, &mut said)
+            let unheard = play(heap, player, line, &mut said)?;
+            Ok(unheard)
         }
     }
 }

@@ -1,0 +1,5 @@
+mod Among
+mod Ors
+mod Upward
+mod Starting
+mod Rowing

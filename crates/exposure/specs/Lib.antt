@@ -1,0 +1,3 @@
+pub mod Links
+pub mod Chains
+pub mod Rows

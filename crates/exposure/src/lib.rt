@@ -1,0 +1,4 @@
+// What lies open after some sides were read: by the rule, and by working out all that can be.
+pub mod rows;
+mod rule;
+mod working;

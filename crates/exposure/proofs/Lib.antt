@@ -2,4 +2,5 @@ mod Among
 mod Ors
 mod Upward
 mod Starting
+mod Adding
 mod Rowing

@@ -13,7 +13,7 @@ use Rattle.std.proofs.shelf.Tests.{cases-eq, le-leb, or-left}
 use Rattle.std.proofs.shelf.Ways.{decides-at}
 use Rattle.std.specs.Orderings.{Decides}
 use Rattle.std.specs.declared.option.Option.{Option}
-use Rattle.std.specs.declared.option.Option.the-variants.{Some, None}
+use Rattle.std.specs.declared.option.Option.the-variants.{None}
 use Rattle.ratchet.specs.declared.types.Mark.{Mark}
 use Rattle.ratchet.specs.declared.sides.Side.{Side}
 use Rattle.ratchet.specs.State.{State, stateOf}

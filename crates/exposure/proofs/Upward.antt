@@ -1,6 +1,6 @@
 -- The links that lie open, one after another upward.
 use mathlib.Core.Path.{_≡_, refl, sym, ap, _∙_}
-use mathlib.Core.Bool.{Bool, true, false, _&&_, _||_}
+use mathlib.Core.Bool.{Bool, false, _&&_, _||_}
 use mathlib.Core.List.{List, [], _∷_, _++_}
 use Prim.Native.Nat.{ℕ, zero, suc, _+_, _<_}
 use mathlib.Core.Logic.{inl, inr}
@@ -9,10 +9,14 @@ use native.Mathlib.Omega.{arith}
 use lib.ListN.{length, getD}
 use Rattle.std.proofs.shelf.Lists.{length-push, getD-push, getD-append-left}
 use Rattle.std.proofs.shelf.Tests.{cases-eq}
-use Rattle.ratchet.specs.State.{State}
-use Rattle.runs.specs.Rule.{readAt, rootOpen, linkOpen}
-use Rattle.runs.proofs.Bools.{or-false}
-use Rattle.exposure.specs.Links.{linksTo}
+use lib.Dec.{eqb, leb}
+use Rattle.ratchet.specs.declared.types.Mark.{Mark}
+use Rattle.ratchet.specs.State.{State, has}
+use Rattle.runs.specs.Rule.{anyRead, readAt, rootOpen, linkOpen, sees}
+use Rattle.runs.proofs.Bools.{or-false, or-assoc, any-same, any-or}
+use Rattle.exposure.specs.Chains.{reaches}
+use Rattle.exposure.specs.Links.{linksTo, keyBy}
+use Rattle.exposure.specs.Sets.{Aside}
 
 -- does the link below lie open; link 0 has none below it
 unfoldable pub belowOpen : List State → ℕ → Bool
@@ -67,3 +71,11 @@ module _ (rs : List State) where
 
   pub table-length : (xs : List Bool) (n k : ℕ) → xs ≡ linksTo rs n → k ≡ length xs → k ≡ n
   table-length xs n k e l = l ∙ (ap length e ∙ length-links n)
+
+  -- a side was read that opens a key by its chain, or one that had it put aside
+  pub seen-by : (m : Mark) → anyRead (sees (m .link) (m .place)) rs ≡ (anyRead (reaches (m .link) (m .place)) rs || anyRead (λ s. has m (s .skipped)) rs)
+  seen-by m = sym (any-or (reaches (m .link) (m .place)) (λ s. has m (s .skipped)) rs ∙ any-same _ _ (λ s. or-assoc (eqb (s .drawn) (suc (m .link)) && leb (s .sent) (m .place)) _ _) rs)
+
+  pub seen-from : (xs : List Mark) → Aside rs xs → (m : Mark) (chain aside r : Bool) → chain ≡ anyRead (reaches (m .link) (m .place)) rs → aside ≡ has m xs → r ≡ keyBy chain aside →
+      r ≡ anyRead (sees (m .link) (m .place)) rs
+  seen-from xs table m chain aside r c a e = let t = table m in let s = seen-by m in cc

@@ -1,3 +1,4 @@
+pub mod Sets
 pub mod Links
 pub mod Chains
 pub mod Rows

@@ -4,16 +4,17 @@ ghost use mathlib.Core.Bool.{_&&_, _||_};
 ghost use mathlib.Core.List.{map};
 ghost use Prim.Native.Nat.{ℕ, _<_};
 ghost use lib.Dec.{leb};
-ghost use lib.ListN.{length};
 ghost use Rattle.std.specs.Of.Vec.{vec-items, vec-len};
 ghost use Rattle.std.specs.Orderings.{Decides};
 ghost use Rattle.std.specs.Vec.{made};
-ghost use Rattle.ratchet.specs.State.{stateOf, has};
+ghost use Rattle.ratchet.specs.State.{stateOf};
 ghost use Rattle.runs.specs.Rule.{anyRead};
 ghost use Rattle.chain.specs.Secret.{own, rootOf, linkOf, chainAt, Knows};
 ghost use Rattle.runs.specs.Stock.{keyOf, stocks};
 ghost use Rattle.runs.specs.Working.{inStock, worksOut};
 ghost use Rattle.exposure.specs.Chains.{atOrAfter, reaches, Starts};
+ghost use Rattle.exposure.specs.Sets.{Held};
+use crate::marks;
 use notation::faults::Fault;
 use notation::faults::FaultFromUnplaced;
 use ratchet::sides::Side;
@@ -102,71 +103,63 @@ fn at_or_after(start: Option<u32>, place: u32) -> bool
     }
 }
 
-// Is a key among some.
-fn holds(keys: &[Mark], mark: Mark) -> bool
-    ensures { λ r. ⌜ r ≡ has mark (now (keys .entry)) ⌝ }
+// The keys that some side held itself.
+fn keys_held(heap: Global, readings: &[Side]) -> Result<Vec<Mark>, Fault>
+    ensures { λ r. ⌜ made r (λ v. Held (map stateOf (now (readings .entry))) (vec-items v)) ⌝ }
 {
-    for x in keys {
-        if x.is(mark) {
-            return true;
-        }
-    }
-    false
-}
-
-// Is a key among those that a side held.
-fn holds_key(side: &Side, mark: Mark) -> bool
-    ensures { λ r. ⌜ r ≡ has mark (stateOf (now (side .entry)) .skipped) ⌝ }
-{
-    holds(&side.marks[0..side.count], mark)
-}
-
-// Is there a side that held a key itself.
-fn key_held(readings: &[Side], mark: Mark) -> bool
-    ensures { λ r. ⌜ r ≡ inStock (keyOf mark) (stocks (map stateOf (now (readings .entry)))) ⌝ }
-{
+    let mut keys = Vec::new(heap);
     for side in readings {
-        if holds_key(side, mark) {
-            return true;
-        }
+        marks::add_all(&mut keys, &side.marks[0..side.count])?;
     }
-    false
+    Ok(keys)
 }
 
-// From which place on the chain of each link is known.
+// From which place on the chain of each link is known, upward: halves give joint secrets, these with the roots give links, and links give roots.
+fn chain_starts(heap: Global, readings: &[Side], count: usize) -> Result<Vec<Option<u32>>, Fault>
+    ensures { λ r. ⌜ made r (λ v. (vec-len v ≡ count) × Starts (map stateOf (now (readings .entry))) (vec-items v)) ⌝ }
+{
+    let mut starts = Vec::new(heap);
+    let mut below = false;
+    let mut half = half_held(readings, 0);
+    for n in 0..count {
+        let link = n as u64;
+        let next_half = half_held(readings, link + 1);
+        let root = root_known(half, below);
+        let known = link_known(root, half, next_half);
+        let start = chain_start(readings, link, known);
+        starts.push(start)?;
+        below = known;
+        half = next_half;
+    }
+    Ok(starts)
+}
+
+// From which place on the chain of each link is known, and which keys were held themselves.
 #[derive(Drop)]
 pub struct Workings {
     starts: Vec<Option<u32>>,
+    keys: Vec<Mark>,
 }
 
 impl Workings {
-    // The first `count` links, upward: halves give joint secrets, these with the roots give links, and links give roots.
+    // The first `count` links.
     pub fn new(heap: Global, readings: &[Side], count: usize) -> Result<Workings, Fault>
-        ensures { λ r. ⌜ made r (λ t. (vec-len (t .starts) ≡ count) × Starts (map stateOf (now (readings .entry))) (vec-items (t .starts))) ⌝ }
+        ensures { λ r. ⌜ made r (λ t. (vec-len (t .starts) ≡ count) × Starts (map stateOf (now (readings .entry))) (vec-items (t .starts)) × Held (map stateOf (now (readings .entry))) (vec-items (t .keys))) ⌝ }
     {
-        let mut starts = Vec::new(heap);
-        let mut below = false;
-        let mut half = half_held(readings, 0);
-        for n in 0..count {
-            let link = n as u64;
-            let next_half = half_held(readings, link + 1);
-            let root = root_known(half, below);
-            let known = link_known(root, half, next_half);
-            let start = chain_start(readings, link, known);
-            starts.push(start)?;
-            below = known;
-            half = next_half;
-        }
-        Ok(Workings { starts })
+        let starts = chain_starts(heap, readings, count)?;
+        let keys = keys_held(heap, readings)?;
+        Ok(Workings { starts, keys })
     }
+
     // Can the key of a message be worked out: its chain is known from its place or from one before, or the key itself was held.
     pub fn known(&self, readings: &[Side], mark: Mark) -> bool
         requires within { ⌜ mark .link < vec-len (now self .starts) ⌝ }
-        requires of { ⌜ Starts (map stateOf (now readings)) (vec-items (now self .starts)) ⌝ }
+        requires starts { ⌜ Starts (map stateOf (now readings)) (vec-items (now self .starts)) ⌝ }
+        requires keys { ⌜ Held (map stateOf (now readings)) (vec-items (now self .keys)) ⌝ }
         ensures value { λ r. ⌜ r ≡ worksOut (stocks (map stateOf (now (readings .entry)))) (keyOf mark) ⌝ }
         ensures decides { λ r. ⌜ Decides r (Knows (stocks (map stateOf (now (readings .entry)))) (keyOf mark)) ⌝ }
     {
         let start = self.starts[mark.link as usize];
-        at_or_after(start, mark.place) || key_held(readings, mark)
+        at_or_after(start, mark.place) || marks::among(self.keys.as_slice(), mark)
     }
 }

@@ -1,4 +1,4 @@
-use Prim.Native.Nat.{ℕ, _<_, _≤_, _^_}
+use Prim.Native.Nat.{ℕ, _<_}
 use lib.ListN.{getD}
 use Rattle.ratchet.specs.Blank.{blank}
 use Rattle.exposure.proofs.rows.links_above.Given as given

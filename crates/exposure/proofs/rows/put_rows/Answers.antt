@@ -1,9 +1,8 @@
-use mathlib.Core.Path.{_≡_, refl, sym, ap, _∙_}
+use mathlib.Core.Path.{refl, sym, ap, _∙_}
 use mathlib.Core.List.{_++_, append-nil, map}
-use Prim.Native.Nat.{ℕ, _+_, _<_}
+use Prim.Native.Nat.{_+_}
 use native.Mathlib.Omega.{arith}
 use borrow.Author.Needs.{needs}
-use lib.ListN.{getD}
 use Rattle.std.specs.Of.Vec.{vec-items, vec-len}
 use Rattle.ratchet.specs.Blank.{blank}
 use Rattle.ratchet.specs.State.{stateOf}
@@ -27,9 +26,9 @@ pub exposed-open-requires : need.exposed-open-requires
 exposed-open-requires c κs =
     let rs = map stateOf (c .args .readings .now) in
     let links = c .in-Continue-rule .rule .links in
-    let items = c .in-Continue-rule .ensures tt in
+    let items = c .in-Continue-rule .ensures tt .0 in
     let len = table-length rs (vec-items links) (c .links-above-count .result) (vec-len links) items (links .ok .0) in
-    record { within = omega (arith, len, c .links-above-count .ensures (c .loop-mark .mark-index) (c .loop-mark-test .taken)); of = items ∙ ap (linksTo rs) (sym len) }
+    record { within = omega (arith, len, c .links-above-count .ensures (c .loop-mark .mark-index) (c .loop-mark-test .taken)); links = items ∙ ap (linksTo rs) (sym len); aside = c .in-Continue-rule .ensures tt .1 }
 
 pub returns-in-Break-put-row : need.returns-in-Break-put-row
 returns-in-Break-put-row c = record { rows = search needs; agree = agree (map stateOf (c .args .readings .now)) }

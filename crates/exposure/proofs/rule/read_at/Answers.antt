@@ -1,8 +1,6 @@
 use mathlib.Core.Path.{sym}
-use mathlib.Core.Bool.{Bool}
 use lib.Dec.{eqb}
 use Rattle.std.proofs.shelf.Tests.{eq-eqb, ne-eqb}
-use Rattle.ratchet.specs.State.{State}
 use Rattle.exposure.proofs.Among as sides
 use Rattle.exposure.proofs.rule.read_at.Needs as need
 

@@ -1,15 +1,10 @@
-use mathlib.Core.Path.{_≡_, sym, ap, _∙_}
-use mathlib.Core.Bool.{Bool}
+use mathlib.Core.Path.{sym, ap, _∙_}
 use mathlib.Core.List.{map}
 use Prim.Native.Nat.{ℕ, _+_}
-use native.Mathlib.Omega.{arith}
 use Rattle.std.specs.Of.Vec.{vec-items}
 use Rattle.ratchet.specs.State.{stateOf}
-use Rattle.chain.specs.Secret.{linkOf}
-use Rattle.runs.specs.Stock.{stocks}
-use Rattle.runs.specs.Working.{worksOut}
 use Rattle.exposure.proofs.Starting.{below-none, below-more, upward, starts-none, starts-more}
-use Rattle.exposure.proofs.working.Workings.new.Needs as need
+use Rattle.exposure.proofs.working.chain_starts.Needs as need
 
 pub loop-n-holds : need.loop-n-holds
 loop-n-holds c =

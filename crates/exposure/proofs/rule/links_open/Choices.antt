@@ -5,7 +5,7 @@ use Rattle.ratchet.specs.State.{stateOf}
 use Rattle.runs.specs.Rule.{readAt}
 use Rattle.exposure.specs.Links.{linksTo}
 use Rattle.exposure.proofs.Upward.{belowOpen}
-use Rattle.exposure.proofs.rule.Rule.new.Given as given
+use Rattle.exposure.proofs.rule.links_open.Given as given
 
 abbrev pub Inv-loop-n : given.InvT-loop-n
 Inv-loop-n l =

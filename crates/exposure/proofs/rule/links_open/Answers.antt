@@ -1,8 +1,8 @@
-use mathlib.Core.Path.{_≡_, sym, _∙_}
+use mathlib.Core.Path.{sym, _∙_}
 use mathlib.Core.List.{map}
 use Rattle.ratchet.specs.State.{stateOf}
 use Rattle.exposure.proofs.Upward.{below-none, below-more, links-none, links-more, upward}
-use Rattle.exposure.proofs.rule.Rule.new.Needs as need
+use Rattle.exposure.proofs.rule.links_open.Needs as need
 
 pub loop-n-holds : need.loop-n-holds
 loop-n-holds c =

@@ -7,7 +7,7 @@ use Rattle.runs.specs.Stock.{stocks}
 use Rattle.runs.specs.Working.{inStock}
 use Rattle.exposure.specs.Chains.{Starts}
 use Rattle.exposure.proofs.Starting.{belowKnown}
-use Rattle.exposure.proofs.working.Workings.new.Given as given
+use Rattle.exposure.proofs.working.chain_starts.Given as given
 
 abbrev pub Inv-loop-n : given.InvT-loop-n
 Inv-loop-n l =

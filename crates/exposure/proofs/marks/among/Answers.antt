@@ -1,7 +1,7 @@
 use mathlib.Core.Path.{sym, _∙_}
 use Rattle.ratchet.specs.Blank.{blank}
 use Rattle.exposure.proofs.Among as marks
-use Rattle.exposure.proofs.rule.among.Needs as need
+use Rattle.exposure.proofs.marks.among.Needs as need
 
 pub loop-x-holds : need.loop-x-holds
 loop-x-holds c = marks.has-none (c .args .mark)

@@ -8,6 +8,7 @@ ghost use Rattle.std.specs.Vec.{made};
 ghost use Rattle.script.specs.Commands.{parsed};
 ghost use Rattle.script.specs.Output.{takingLine};
 ghost use Rattle.stage.specs.Players.{isThere, numbered};
+ghost use Rattle.script.specs.Reasons.{reasonOf};
 ghost use Rattle.script.specs.Played.{SendLine, DeliverLine, PlanLine, ReadLine, LinePlayed};
 use crate::commands;
 use crate::commands::Command;
@@ -129,7 +130,9 @@ fn play_read(
 
 impl BadLine {
     // What is wrong, in words.
-    pub fn reason(self) -> &'static str {
+    pub fn reason(self) -> &'static str
+        ensures { λ r. ⌜ now r ≡ reasonOf self ⌝ }
+    {
         match self {
             BadLine::NoCommand => "not a command",
             BadLine::BadText => "a bad escape in the text",

@@ -56,16 +56,20 @@ pub fn is_blank(line: &[u8]) -> bool
 
 // The number that a line is from this place on.
 pub fn number_behind(line: &[u8], at: usize) -> Option<u32>
-    requires { ⌜ at ≤ length (now line) ⌝ }
     ensures { λ r. ⌜ r ≡ numberOf (drop at (now (line .entry))) ⌝ }
 {
+    if at > line.len() {
+        return None;
+    }
     parse_number(&line[at..line.len()])
 }
 
 // The number that a line is up to this place.
 pub fn number_before(line: &[u8], at: usize) -> Option<u32>
-    requires { ⌜ at ≤ length (now line) ⌝ }
     ensures { λ r. ⌜ r ≡ numberOf (take at (now (line .entry))) ⌝ }
 {
+    if at > line.len() {
+        return parse_number(line);
+    }
     parse_number(&line[0..at])
 }

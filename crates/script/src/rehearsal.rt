@@ -41,7 +41,7 @@ pub enum Ending {
 }
 
 // Where the line that begins at `at` ends: at the next newline, or with the script.
-pub fn line_end(script: &[u8], at: usize) -> usize
+fn line_end(script: &[u8], at: usize) -> usize
     requires { ⌜ at ≤ length (now script) ⌝ }
     ensures from { λ r. ⌜ at ≤ r ⌝ }
     ensures bound { λ r. ⌜ r ≤ length (now (script .entry)) ⌝ }

@@ -21,7 +21,13 @@ use Rattle.notation.specs.Escapes.{unescaped}
 use Rattle.stage.specs.Players.{worldOf, numbered, whole, dueFor, DeliveryIs}
 use Rattle.stage.specs.Plan.{upTo}
 use Rattle.script.specs.Played.{SendText, LinePlayed}
-use Rattle.script.specs.Whole.{Moved, Lawful}
+use Rattle.script.specs.declared.play.BadLine.{BadLine}
+use Rattle.script.specs.declared.rehearsal.Ending.{Ending}
+use Rattle.script.specs.declared.rehearsal.View.{View}
+use Rattle.script.specs.declared.rehearsal.View.the-variants.{Sides, Openness}
+use Rattle.script.specs.Commands.{parsed}
+use Rattle.script.specs.Views.{Viewed, Turned}
+use Rattle.script.specs.Whole.{Moved, Lawful, Through, begun, onward, Ended, allPlayed, badLine, lineAt}
 
 delivery-moved : (n : ℕ) (flip : Option ℕ) (p q : Player) (d : Delivery) → DeliveryIs n flip p q d → Moved (worldOf p) (worldOf q)
 delivery-moved n flip p q delivery.NoSuchMessage h = inl (ap worldOf (h .1))
@@ -61,3 +67,18 @@ ran-more w v u (es, h) (inr (e, k)) = (es ++ e ∷ [], k ∙ (ap (step e) h ∙ 
 
 pub lawful : (w v : World) → Ran w v → Lawful w v
 lawful w v r = record { events = r .0; ran = r .1; laws = λ _. every-run (r .0) }
+
+viewed-moved : (v : View) (line : List ℕ) (p q : Player) (o u : List ℕ) (b : Played) → Viewed v line p q o u b → Moved (worldOf p) (worldOf q)
+viewed-moved Sides line p q o u b h = line-moved (parsed line) line p q o u b h
+viewed-moved Openness line p q o u b h = line-moved (parsed line) line p q [] (h .1 .0) b (h .1 .1)
+
+through-ran : {v : View} {s : List ℕ} {p₀ : Player} {o₀ : List ℕ} {at k : ℕ} {p : Player} {o : List ℕ} → Through v s p₀ o₀ at k p o → Ran (worldOf p₀) (worldOf p)
+through-ran {p₀ = p₀} begun = ran-none (worldOf p₀)
+through-ran {v = v} {s = s} {p₀ = p₀} (onward {at = at} {p = p} {q = q} {o = o} t h end e b d g) =
+    ran-more (worldOf p₀) (worldOf p) (worldOf q) (through-ran t) (viewed-moved v (lineAt s at end) p q o (d .0) b (d .1))
+
+-- however a script ended, what was played is a run
+pub ended-lawful : {v : View} {s : List ℕ} {p₀ : Player} {o₀ : List ℕ} {q : Player} {u : List ℕ} {e : Ending} → Ended v s p₀ o₀ q u e → Lawful (worldOf p₀) (worldOf q)
+ended-lawful {p₀ = p₀} {q = q} (allPlayed t h) = lawful (worldOf p₀) (worldOf q) (through-ran t)
+ended-lawful {v = v} {s = s} {p₀ = p₀} {q = q} (badLine {at = at} {p = p} {o = o} t h end e why d) =
+    lawful (worldOf p₀) (worldOf q) (ran-more (worldOf p₀) (worldOf p) (worldOf q) (through-ran t) (viewed-moved v (lineAt s at end) p q o (d .0) _ (d .1)))

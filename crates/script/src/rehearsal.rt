@@ -8,8 +8,8 @@ ghost use Rattle.std.specs.Vec.{made};
 ghost use Rattle.ratchet.specs.State.{stateOf};
 ghost use Rattle.script.specs.Output.{shown};
 ghost use Rattle.stage.specs.Players.{worldOf};
-ghost use Rattle.script.specs.Views.{markOf, opennessOf, showOf, endOf};
-ghost use Rattle.script.specs.Whole.{Moved, Lawful};
+ghost use Rattle.script.specs.Views.{markOf, opennessOf, showOf, endOf, Viewed, Turned};
+ghost use Rattle.script.specs.Whole.{Ended, Lawful};
 use crate::output;
 use crate::play::BadLine;
 use crate::play::Played;
@@ -116,7 +116,7 @@ fn play_viewed(
     line: &[u8],
     out: &mut Vec<u8>,
 ) -> Result<Played, Fault>
-    ensures { λ r. ⌜ made r (λ _. Moved (worldOf (now (player .entry))) (worldOf (now (player .exit)))) ⌝ }
+    ensures { λ r. ⌜ made r (Viewed view (now (line .entry)) (now (player .entry)) (now (player .exit)) (vec-items (now (out .entry))) (vec-items (now (out .exit)))) ⌝ }
 {
     match view {
         View::Sides => {
@@ -131,7 +131,25 @@ fn play_viewed(
     }
 }
 
-// Plays a script to its end, or to its first bad line.
+// Plays the line of this number, and shows what is to be shown where it is `show`.
+fn turn(
+    heap: Global,
+    player: &mut Player,
+    view: View,
+    number: usize,
+    line: &[u8],
+    out: &mut Vec<u8>,
+) -> Result<Played, Fault>
+    ensures { λ r. ⌜ made r (Turned view number (now (line .entry)) (now (player .entry)) (now (player .exit)) (vec-items (now (out .entry))) (vec-items (now (out .exit)))) ⌝ }
+{
+    let played = play_viewed(heap, player, view, line, out)?;
+    if let Played::Show = played {
+        put_show(heap, player, view, number, out)?;
+    }
+    Ok(played)
+}
+
+// Plays a script, line by line, to its end or to its first bad line.
 pub fn play_all(
     heap: Global,
     player: &mut Player,
@@ -139,16 +157,16 @@ pub fn play_all(
     script: &[u8],
     out: &mut Vec<u8>,
 ) -> Result<Ending, Fault>
-    ensures { λ r. ⌜ made r (λ _. Lawful (worldOf (now (player .entry))) (worldOf (now (player .exit)))) ⌝ }
+    ensures ended { λ r. ⌜ made r (Ended view (now (script .entry)) (now (player .entry)) (vec-items (now (out .entry))) (now (player .exit)) (vec-items (now (out .exit)))) ⌝ }
+    ensures lawful { λ r. ⌜ made r (λ _. Lawful (worldOf (now (player .entry))) (worldOf (now (player .exit)))) ⌝ }
 {
     let mut at = 0usize;
     let mut number = 1usize;
     while at < script.len() {
         let end = line_end(script, at);
-        match play_viewed(heap, player, view, &script[at..end], out)? {
-            Played::Done => {}
-            Played::Show => put_show(heap, player, view, number, out)?,
-            Played::Bad(why) => return Ok(Ending::Bad(number, why)),
+        let played = turn(heap, player, view, number, &script[at..end], out)?;
+        if let Played::Bad(why) = played {
+            return Ok(Ending::Bad(number, why));
         }
         at = end + 1;
         number = number.saturating_add(1);

@@ -1,8 +1,8 @@
--- Lemmas that several proofs share.
+-- Lemmas that several proofs share; Lengths and Streams have those that other crates need.
 mod Blanks
 mod Compared
-mod Lengths
+pub mod Lengths
 mod Sealings
 mod Serials
-mod Streams
+pub mod Streams
 mod Zips

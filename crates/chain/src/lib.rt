@@ -1,4 +1,6 @@
 // Root, chain and message keys of links: how each comes from those before it.
+#![tactic(auto)]
+
 mod keys;
 mod links;
 mod wipe;

@@ -1,4 +1,6 @@
 // What the programs over scripts share: finding the script, playing it, printing, and how they end.
+#![tactic(auto)]
+
 use notation::faults::Fault;
 use script::rehearsal;
 use script::rehearsal::{Ending, View};

@@ -1,4 +1,6 @@
 // SHA-256, HMAC and HKDF, proved equal to their standards' definitions on lists of bytes.
+#![tactic(auto)]
+
 mod block;
 mod buffer;
 mod expand;

@@ -1,4 +1,6 @@
 // The calls that the benchmark times, for C to link.
+#![tactic(auto)]
+
 use digest::{hmac, sha256};
 
 // Copies a digest to a place with room for it; false where there is none.

@@ -1,4 +1,6 @@
 // Prints the digests, tags and key material of the standards' own examples: a name and the bytes, a line each.
+#![tactic(auto)]
+
 use digest::{Hasher, hkdf, hmac, hmac_parts, sha256};
 use std::io;
 

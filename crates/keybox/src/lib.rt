@@ -1,4 +1,6 @@
 // The key box: it holds the secret halves of a side's keys and lets none of them out; and a box of numbers, for rehearsals and tests.
+#![tactic(auto)]
+
 mod boxes;
 mod numbers;
 mod renewal;

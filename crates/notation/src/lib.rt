@@ -1,4 +1,6 @@
 // How scripts and output are written: escaped texts, numbers, words of a line.
+#![tactic(auto)]
+
 pub mod faults;
 pub mod laws;
 pub mod numbers;

@@ -1,4 +1,6 @@
 // Plays a script and prints, at each `show` and at its end, of each message who can open it.
+#![tactic(auto)]
+
 use console::program;
 use script::rehearsal::View;
 

@@ -1,4 +1,6 @@
 // The page of a side: all that it holds, as bytes of a file.
+#![tactic(auto)]
+
 mod laws;
 mod parts;
 mod putting;

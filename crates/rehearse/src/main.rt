@@ -1,4 +1,6 @@
 // Plays a script with both sides and prints what comes of each line.
+#![tactic(auto)]
+
 use console::program;
 use script::rehearsal::View;
 

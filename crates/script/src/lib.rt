@@ -1,4 +1,6 @@
 // Scripts: their lines, what playing one does, and what it prints.
+#![tactic(auto)]
+
 pub mod commands;
 pub mod output;
 pub mod play;

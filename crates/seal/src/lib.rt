@@ -1,4 +1,6 @@
 // Sealing of texts: the ChaCha20 stream, and the tag that tells a message from a forgery.
+#![tactic(auto)]
+
 mod block;
 mod cipher;
 mod keys;

@@ -1,4 +1,6 @@
 // The stream, sealing and opening as C functions, for the benchmark to link.
+#![tactic(auto)]
+
 use seal::{MessageKey, Nonce, open, seal, stream};
 
 // 0: done; 1: the text is too long, and was left as it was.

@@ -1,4 +1,6 @@
 // Runs the standard's own values of the stream and a script's values of sealing, and prints what comes out.
+#![tactic(auto)]
+
 mod message;
 mod rfc;
 mod sealed;

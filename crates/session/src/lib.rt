@@ -1,4 +1,6 @@
 // A session: one side of an exchange, with its keys. It seals texts and opens messages.
+#![tactic(auto)]
+
 mod along;
 mod answers;
 mod begun;

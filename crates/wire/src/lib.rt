@@ -1,4 +1,6 @@
 // Messages as bytes: a header, the sealed text, and its tag.
+#![tactic(auto)]
+
 mod header;
 mod reading;
 mod writing;

@@ -86,9 +86,6 @@ def main():
             path = os.path.join(folder, name)
             names = dict(everywhere)
             names.update(within.get(path.split(os.sep)[1], {}))
-            if name.endswith(".rt"):
-                # in Rust a dash is a minus
-                names = {a: b for a, b in names.items() if "-" not in a or a[0].isupper()}
             with open(path, encoding="utf-8") as f:
                 old = f.read()
             new = turned(old, names, path)

@@ -1,7 +1,7 @@
 // Writes to lent bytes.
 ghost use Rattle.std.specs.Prelude.{◌≡◌, ◌+◌, ◌-◌, ◌<◌, ◌≤◌, ◌∷◌, ◌++◌, length, take, drop, replicate};
 ghost use Rattle.digest.specs.Hmac.{xored};
-ghost use Rattle.digest.specs.Sha256.{length-bytes};
+ghost use Rattle.digest.specs.Sha256.{length_bytes};
 
 // Copies part into bytes, from a place on.
 pub fn put(bytes: &mut [u8], at: usize, part: &[u8])
@@ -33,7 +33,7 @@ pub fn mark(bytes: &mut [u8], at: usize)
 // Writes a number of 64 bits into the last eight bytes of a block, the high byte first.
 pub fn write_length(block: &mut [u8], bits: u64)
     requires { length block.old ≡ 64 }
-    ensures { block.new ≡ take 56 block.old ++ length-bytes bits }
+    ensures { block.new ≡ take 56 block.old ++ length_bytes bits }
 {
     put(block, 56, &bits.to_be_bytes());
 }

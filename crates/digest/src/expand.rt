@@ -1,7 +1,7 @@
 // HKDF with SHA-256; the keys that it works out are overwritten before it returns.
 ghost use Rattle.std.specs.Prelude.{◌≡◌, ℕ, ◌+◌, ◌<◌, ◌≤◌, List, [], ◌∷◌, ◌++◌, length, MatchResult};
-ghost use Rattle.digest.specs.Hkdf.{expanded, hkdf-sha-256, most};
-ghost use Rattle.digest.specs.Hmac.{hmac-sha-256};
+ghost use Rattle.digest.specs.Hkdf.{expanded, hkdf_sha_256, most};
+ghost use Rattle.digest.specs.Hmac.{hmac_sha_256};
 ghost use Rattle.digest.specs.Keyed.{Macs};
 
 use crate::buffer::{put, wipe};
@@ -23,7 +23,7 @@ fn number_of(i: usize) -> u8
 
 // The next block of the expansion, from the one before it and its number.
 fn next_block(start: &Mac, before: &[u8], info: &[u8], number: u8) -> [u8; 32]
-    ensures { (k : List ℕ) → Macs start.now k [] → result ≡ hmac-sha-256 k (before.now ++ info.now ++ number ∷ []) }
+    ensures { (k : List ℕ) → Macs start.now k [] → result ≡ hmac_sha_256 k (before.now ++ info.now ++ number ∷ []) }
 {
     let mut mac = *start;
     mac.update(before);
@@ -54,7 +54,7 @@ fn expand_key(key: &[u8], info: &[u8], out: &mut [u8])
 // Fills out with the key material for a salt, an input and an info; more than 255 blocks are refused.
 pub fn hkdf(salt: &[u8], input: &[u8], info: &[u8], out: &mut [u8]) -> Result<(), TooLong>
     ensures { MatchResult result
-        (λ _. (length out.old ≤ most) × (out.new ≡ hkdf-sha-256 salt.now input.now info.now (length out.old)))
+        (λ _. (length out.old ≤ most) × (out.new ≡ hkdf_sha_256 salt.now input.now info.now (length out.old)))
         (λ _. (most < length out.old) × (out.new ≡ out.old)) }
 {
     if out.len() > MOST {

@@ -1,6 +1,6 @@
 // HMAC with SHA-256; what held the key or a pad is overwritten before a call returns.
 ghost use Rattle.std.specs.Prelude.{◌≡◌, ℕ, ◌≤◌, List, [], ◌∷◌, ◌++◌, length};
-ghost use Rattle.digest.specs.Hmac.{filled, hmac-sha-256, xored};
+ghost use Rattle.digest.specs.Hmac.{filled, hmac_sha_256, xored};
 ghost use Rattle.digest.specs.Keyed.{Macs};
 ghost use Rattle.digest.specs.Streaming.{Holds, fresh};
 
@@ -61,7 +61,7 @@ impl Mac {
 
     // The HMAC of the message so far and its last part; the state then holds nothing of the key any more.
     pub fn finish(&mut self, last: &[u8]) -> [u8; 32]
-        ensures tag { (k m : List ℕ) → Macs self.old k m → result ≡ hmac-sha-256 k (m ++ last.now) }
+        ensures tag { (k m : List ℕ) → Macs self.old k m → result ≡ hmac_sha_256 k (m ++ last.now) }
         ensures inner { self.new.inner ≡ fresh }
         ensures outer { self.new.outer ≡ fresh }
     {
@@ -83,7 +83,7 @@ impl Mac {
 
 // The HMAC of a message under a key of any length.
 pub fn hmac(key: &[u8], message: &[u8]) -> [u8; 32]
-    ensures { result ≡ hmac-sha-256 key.now message.now }
+    ensures { result ≡ hmac_sha_256 key.now message.now }
 {
     let mut mac = Mac::blank();
     mac.begin(key);
@@ -92,7 +92,7 @@ pub fn hmac(key: &[u8], message: &[u8]) -> [u8; 32]
 
 // The HMAC of a message in two parts.
 pub fn hmac_parts(key: &[u8], head: &[u8], body: &[u8]) -> [u8; 32]
-    ensures { result ≡ hmac-sha-256 key.now (head.now ++ body.now) }
+    ensures { result ≡ hmac_sha_256 key.now (head.now ++ body.now) }
 {
     let mut mac = Mac::blank();
     mac.begin(key);
@@ -102,7 +102,7 @@ pub fn hmac_parts(key: &[u8], head: &[u8], body: &[u8]) -> [u8; 32]
 
 // The HMACs of the bytes 1 and 2 under one key, whose pads are compressed once for both.
 pub fn hmac_pair(key: &[u8; 32]) -> ([u8; 32], [u8; 32])
-    ensures { (result.0 ≡ hmac-sha-256 key.now (1 ∷ [])) × (result.1 ≡ hmac-sha-256 key.now (2 ∷ [])) }
+    ensures { (result.0 ≡ hmac_sha_256 key.now (1 ∷ [])) × (result.1 ≡ hmac_sha_256 key.now (2 ∷ [])) }
 {
     let mut first = Mac::blank();
     first.begin(key);

@@ -1,6 +1,6 @@
 // What is tested of the bytes of a page alone.
 ghost use Rattle.std.specs.Prelude.{◌≡◌, ◌+◌, length, take, drop, Decides};
-ghost use Rattle.digest.specs.Sha256.{sha-256};
+ghost use Rattle.digest.specs.Sha256.{sha_256};
 ghost use Rattle.page.specs.Parts.{Whole};
 
 use crate::parts::count_in;
@@ -23,7 +23,7 @@ pub(crate) fn same(a: &[u8], b: &[u8]) -> bool
 // Whether the bytes from a place on are the digest of those before it.
 fn is_closed(bytes: &[u8], end: usize) -> bool
     requires { end + 32 ≡ length bytes.now }
-    ensures { Decides result (drop end bytes.now ≡ sha-256 (take end bytes.now)) }
+    ensures { Decides result (drop end bytes.now ≡ sha_256 (take end bytes.now)) }
 {
     let digest = sha256(&bytes[0..end]);
     same(&bytes[end..bytes.len()], &digest)

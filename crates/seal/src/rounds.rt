@@ -1,6 +1,6 @@
 // The rounds of ChaCha20 on its sixteen words (RFC 8439, sections 2.1 to 2.3).
 ghost use Rattle.std.specs.Prelude.{◌≡◌, ◌<◌};
-ghost use Rattle.seal.specs.ChaCha20.{line, quarter-round, column-rounds, diagonal-rounds, double-rounds};
+ghost use Rattle.seal.specs.ChaCha20.{line, quarter_round, column_rounds, diagonal_rounds, double_rounds};
 
 // One line of the quarter round: a += b; d ^= a; d <<<= n.
 fn mix(s: &mut [u32; 16], a: usize, b: usize, d: usize, n: u32)
@@ -13,7 +13,7 @@ fn mix(s: &mut [u32; 16], a: usize, b: usize, d: usize, n: u32)
 
 fn quarter(s: &mut [u32; 16], a: usize, b: usize, c: usize, d: usize)
     requires { (a < 16) × ((b < 16) × ((c < 16) × (d < 16))) }
-    ensures { s.new ≡ quarter-round s.old a b c d }
+    ensures { s.new ≡ quarter_round s.old a b c d }
 {
     mix(s, a, b, d, 16);
     mix(s, c, d, b, 12);
@@ -22,7 +22,7 @@ fn quarter(s: &mut [u32; 16], a: usize, b: usize, c: usize, d: usize)
 }
 
 fn columns(s: &mut [u32; 16])
-    ensures { s.new ≡ column-rounds s.old }
+    ensures { s.new ≡ column_rounds s.old }
 {
     quarter(s, 0, 4, 8, 12);
     quarter(s, 1, 5, 9, 13);
@@ -31,7 +31,7 @@ fn columns(s: &mut [u32; 16])
 }
 
 fn diagonals(s: &mut [u32; 16])
-    ensures { s.new ≡ diagonal-rounds s.old }
+    ensures { s.new ≡ diagonal_rounds s.old }
 {
     quarter(s, 0, 5, 10, 15);
     quarter(s, 1, 6, 11, 12);
@@ -41,7 +41,7 @@ fn diagonals(s: &mut [u32; 16])
 
 // The twenty rounds: ten times the columns and then the diagonals.
 pub(crate) fn twenty_rounds(s: &mut [u32; 16])
-    ensures { s.new ≡ double-rounds 10 s.old }
+    ensures { s.new ≡ double_rounds 10 s.old }
 {
     for i in 0..10usize {
         columns(s);

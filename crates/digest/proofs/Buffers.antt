@@ -8,14 +8,14 @@ use Rattle.std.proofs.lemmas.List.Edits.{paste_all}
 use Rattle.digest.specs.Sha256.{length_bytes}
 
 -- a part that holds s now
-pub put_mid : (at k : ℕ) (xs ys s : List ℕ) → ys ≡ s → length s ≡ k → put_mid at k xs ys ≡ take at xs ++ (s ++ drop (at + length s) xs)
-put_mid at k xs ys s same len = put_mid-paste at k xs ys s (length s) same len refl ∙ paste_all xs at s (length s) refl
+pub put_mid_lem : (at k : ℕ) (xs ys s : List ℕ) → ys ≡ s → length s ≡ k → put_mid at k xs ys ≡ take at xs ++ (s ++ drop (at + length s) xs)
+put_mid_lem at k xs ys s same len = put_mid-paste at k xs ys s (length s) same len refl ∙ paste_all xs at s (length s) refl
 
 pub mark-mid : (xs ys : List ℕ) (at n : ℕ) → at < length xs → ys ≡ replicate n 0 → n ≡ length xs - (at + 1)
     → put_mid (at + 1) (length xs - (at + 1)) (set xs at 0x80) ys ≡ take at xs ++ (0x80 ∷ replicate (length xs - at - 1) 0)
 mark-mid xs ys at n lt same size =
     let len : length (replicate {A = ℕ} n 0) ≡ n = length-replicate n 0 in
-    let mid = put_mid (at + 1) (length xs - (at + 1)) (set xs at 0x80) ys (replicate n 0) same (len ∙ size) in
+    let mid = put_mid_lem (at + 1) (length xs - (at + 1)) (set xs at 0x80) ys (replicate n 0) same (len ∙ size) in
     let long : length (set xs at 0x80) ≡ length xs = length-set xs at 0x80 in
     let none = drop_all (at + 1 + length (replicate {A = ℕ} n 0)) (set xs at 0x80) (omega arith) in
     let end = append-nil (replicate {A = ℕ} n 0) in

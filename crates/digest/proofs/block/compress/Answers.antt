@@ -11,12 +11,12 @@ loop-q-init c = stands_none c.args.value.now (parsed c.args.block.now 16) _ refl
 pub loop-q-preserved : goal.loop-q-preserved
 loop-q-preserved c =
     let m = parsed c.args.block.now 16 in
-    stands_at _ _ (omega arith) (c.sixteen-turns-y.ensures c.args.value.now m (length-parsed c.args.block.now 16) c.loop-q.invariant)
+    stands_at _ _ (omega arith) (c.sixteen_turns-y.ensures c.args.value.now m (length-parsed c.args.block.now 16) c.loop-q.invariant)
 
 pub returns : goal.returns
 unfolding compressed
 returns c =
     let m = parsed c.args.block.now 16 in
     let done =
-    c.last-rounds.ensures c.args.value.now m (length-parsed c.args.block.now 16) (stands_at _ 48 (omega arith) c.loop-q.invariant) in
-    c.add-words-after.ensures ∙ ap (sums c.args.value.now) done
+    c.last_rounds.ensures c.args.value.now m (length-parsed c.args.block.now 16) (stands_at _ 48 (omega arith) c.loop-q.invariant) in
+    c.add_words-after.ensures ∙ ap (sums c.args.value.now) done

@@ -11,7 +11,7 @@ loop-i-init c = (sym (parsed-none c.args.block.now), omega arith)
 pub loop-i-preserved : goal.loop-i-preserved
 unfolding word
 loop-i-preserved c = (
-  load_more c.args.block.now c.loop-i.w c.loop-i.i _ (omega arith) c.loop-i.invariant.0 c.from-be-bytes.ensures,
+  load_more c.args.block.now c.loop-i.w c.loop-i.i _ (omega arith) c.loop-i.invariant.0 c.from_be_bytes.ensures,
   length-set c.loop-i.w c.loop-i.i _ ∙ c.loop-i.invariant.1,
 )
 

@@ -5,4 +5,4 @@ use Rattle.digest.proofs.buffer.write_length.Goals as goal
 
 pub returns : goal.returns
 unfolding length_bytes
-returns c = length-written c.args.block.now c.to-be-bytes.result _ c.args.bits c.requires c.to-be-bytes.ensures c.put.ensures
+returns c = length-written c.args.block.now c.to_be_bytes.result _ c.args.bits c.requires c.to_be_bytes.ensures c.put.ensures

@@ -5,4 +5,4 @@ use Rattle.digest.proofs.words.big_sigma1.Goals as goal
 
 pub returns : goal.returns
 returns c =
-    three_rotations 6 5 14 7 c.args.x _ _ _ refl (omega arith) c.rotate-right.ensures c.rotate-right-2.ensures c.rotate-right-3.ensures
+    three_rotations 6 5 14 7 c.args.x _ _ _ refl (omega arith) c.rotate_right.ensures c.rotate_right-2.ensures c.rotate_right-3.ensures

@@ -7,4 +7,4 @@ use Rattle.digest.proofs.words.small_sigma1.Goals as goal
 pub returns : goal.returns
 returns c =
     ap (λ (y : ℕ). bit_xor y (c.args.x / 2 ^ 10))
-    (two-rotations 17 2 13 c.args.x _ _ refl (omega arith) c.rotate-right.ensures c.rotate-right-2.ensures)
+    (two-rotations 17 2 13 c.args.x _ _ refl (omega arith) c.rotate_right.ensures c.rotate_right-2.ensures)

@@ -9,10 +9,10 @@ returns-in-Some c =
     let side = c.args.side in
     let m = c.args.message in
     let z : side.count - 0 ≡ side.count = omega arith in
-    let turn : in_turn (state_of side) m ≡ false = sym c.in-turn.ensures ∙ c.if-in-turn.false in
+    let turn : in_turn (state_of side) m ≡ false = sym c.in_turn.ensures ∙ c.if-in_turn.false in
     let at = c.in-Some.ensures.1 in
     let found : has m.mark (take side.count side.marks) ≡ true = cc in
     record {
-      answer = c.take-recalled.ensures.answer ∙ sym (take-recalled c.args.opens (state_of side) m turn found);
-      values = c.take-recalled.ensures.values;
+      answer = c.take_recalled.ensures.answer ∙ sym (take-recalled c.args.opens (state_of side) m turn found);
+      values = c.take_recalled.ensures.values;
     }

@@ -6,13 +6,13 @@ use Rattle.ratchet.proofs.Slots.{length-places, grown_front, grown_rest}
 use Rattle.ratchet.proofs.Kept.{kept_in_turn}
 use Rattle.ratchet.proofs.steps.take_in_turn.Goals as goal
 
-pub invariant-of-result : goal.invariant-of-result
-invariant-of-result c =
+pub invariant_of-result : goal.invariant_of-result
+invariant_of-result c =
     let side = c.args.side in
     let n = c.args.message.mark.place - side.taken in
     let size : length side.marks ≡ 512 = search rules in
     let new = places c.args.message.mark.link side.taken n in
-    (omega arith, (grown_rest side.marks _ new side.count n _ (omega arith) (length-places _ _ n) c.put.ensures refl blank 512 side.rest, tt))
+    record { few = omega arith; rest = grown_rest side.marks _ new side.count n _ (omega arith) (length-places _ _ n) c.put.ensures refl blank 512 side.rest }
 
 pub returns : goal.returns
 returns c =

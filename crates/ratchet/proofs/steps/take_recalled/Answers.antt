@@ -7,13 +7,13 @@ use Rattle.ratchet.proofs.Slots.{part_front, removed_from, shrunk_front, shrunk_
 use Rattle.ratchet.proofs.Kept.{kept_recalled}
 use Rattle.ratchet.proofs.steps.take_recalled.Goals as goal
 
-pub invariant-of-result : goal.invariant-of-result
-invariant-of-result c =
+pub invariant_of-result : goal.invariant_of-result
+invariant_of-result c =
     let side = c.args.side in
     let l : length side.marks ≡ 512 = search rules in
     let k : length c.remove.new.marks ≡ side.count = search rules in
     let e = shrunk_rest side.marks c.remove.new.marks side.count c.args.i blank c.requires.within (omega arith) (removed_from side.marks c.remove.new.marks side.count c.args.i blank c.remove.ensures) 512 (omega arith) side.rest in
-    (omega arith, (ap (drop (side.count - 1)) (part_front side.marks c.remove.new.marks side.count k) ∙ e, tt))
+    record { few = omega arith; rest = ap (drop (side.count - 1)) (part_front side.marks c.remove.new.marks side.count k) ∙ e }
 
 pub returns : goal.returns
 returns c =

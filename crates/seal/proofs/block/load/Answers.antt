@@ -3,4 +3,4 @@ use Rattle.seal.proofs.block.load.Goals as goal
 
 pub returns : goal.returns
 unfolding word
-returns c = c.from-le-bytes.ensures
+returns c = c.from_le_bytes.ensures

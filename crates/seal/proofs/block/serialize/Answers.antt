@@ -7,7 +7,7 @@ loop-i-init c = refl
 
 pub loop-i-preserved : goal.loop-i-preserved
 loop-i-preserved c =
-    serialize_more c.args.words.now c.args.bytes.now c.loop-i.bytes c.copy-from-slice.new.self c.loop-i.i (omega arith) c.loop-i.invariant (c.copy-from-slice.ensures.after ∙ c.to-le-bytes.ensures)
+    serialize_more c.args.words.now c.args.bytes.now c.loop-i.bytes c.copy_from_slice.new.self c.loop-i.i (omega arith) c.loop-i.invariant (c.copy_from_slice.ensures.after ∙ c.to_le_bytes.ensures)
 
 pub returns : goal.returns
 returns c = serialize_all c.args.words.now c.args.bytes.now c.loop-i.bytes c.loop-i.i (omega arith) (omega arith) c.loop-i.invariant

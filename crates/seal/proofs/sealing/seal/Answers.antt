@@ -8,5 +8,5 @@ returns c =
       counts = c.counts.ensures.0 c.if-not-counts.false;
       counted = refl;
       room = omega arith;
-      output = seal-written c.args.key.now.0 c.args.header.now c.args.text.now c.args.out.now c.cover.new.out c.copy-from-slice.new.self (length c.args.text.now) refl (omega arith) c.cover.ensures (c.copy-from-slice.ensures.after ∙ c.tag-made.ensures);
+      output = seal-written c.args.key.now.0 c.args.header.now c.args.text.now c.args.out.now c.cover.new.out c.copy_from_slice.new.self (length c.args.text.now) refl (omega arith) c.cover.ensures (c.copy_from_slice.ensures.after ∙ c.tag-made.ensures);
     }

@@ -6,4 +6,4 @@ use Rattle.digest.proofs.streaming.Hasher.begin.Goals as goal
 pub returns : goal.returns
 returns c =
     begun c.new.result _ c.args.bytes.now _ _ c.args.pad c.new.ensures.value c.requires
-    c.put.ensures c.xor-each.ensures c.compress.ensures refl
+    c.put.ensures c.xor_each.ensures c.compress.ensures refl

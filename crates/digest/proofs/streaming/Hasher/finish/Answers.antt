@@ -8,7 +8,7 @@ use Rattle.digest.proofs.streaming.Hasher.finish.Goals as goal
 pub returns : goal.returns
 unfolding sha_256
 returns c = record {
-  digest = λ m h. c.write-words.ensures ∙ ap bytes (c.close.ensures ∙ close_holds c.args.self.now m _ _ h refl c.in-bits-bits.ensures);
+  digest = λ m h. c.write_words.ensures ∙ ap bytes (c.close.ensures ∙ close_holds c.args.self.now m _ _ h refl c.in_bits-bits.ensures);
   alone = λ m h. alone_padded m;
   after = c.new.ensures.value;
 }

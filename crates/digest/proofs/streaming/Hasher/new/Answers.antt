@@ -5,6 +5,6 @@ use Rattle.digest.proofs.streaming.Hasher.new.Goals as goal
 
 pub returns : goal.returns
 returns c = record {
-  value = fresh-from _ _ _ c.first-values.ensures refl refl;
-  holds = holds-none _ c.first-values.ensures refl;
+  value = fresh-from _ _ _ c.first_values.ensures refl refl;
+  holds = holds-none _ c.first_values.ensures refl;
 }

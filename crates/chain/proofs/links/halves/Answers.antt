@@ -6,4 +6,4 @@ use Rattle.chain.proofs.links.halves.Goals as goal
 pub returns : goal.returns
 returns c =
     let long : length (drop 32 c.args.both.now) ≤ 32 = omega (arith, length-drop 32 c.args.both.now) in
-    (c.copy-from-slice.ensures.after, c.copy-from-slice-2.ensures.after ∙ take_all 32 (drop 32 c.args.both.now) long)
+    (c.copy_from_slice.ensures.after, c.copy_from_slice-2.ensures.after ∙ take_all 32 (drop 32 c.args.both.now) long)

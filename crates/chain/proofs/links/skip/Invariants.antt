@@ -4,4 +4,4 @@ use Rattle.chain.specs.Bytes.{chain_along}
 use Rattle.chain.proofs.links.skip.Given as goal
 
 abbrev pub invariant-loop-place : goal.invariant-loop-place
-invariant-loop-place l = l.at.0 ≡ chain_along l.-place l.chain.0
+invariant-loop-place l = l.at.0 ≡ chain_along l._place l.chain.0

@@ -6,11 +6,11 @@ use Rattle.exposure.proofs.Upward.{table_length}
 use Rattle.exposure.proofs.Rowing.{agree, rows_none, row_put, rows_all}
 use Rattle.exposure.proofs.rows.put_rows.Goals as goal
 
-pub returns-in-err-rule : goal.returns-in-err-rule
-returns-in-err-rule c = record { rows = search rules; agree = agree (map state_of c.args.readings.now) }
+pub returns-in_err-rule : goal.returns-in_err-rule
+returns-in_err-rule c = record { rows = search rules; agree = agree (map state_of c.args.readings.now) }
 
-pub returns-in-err-workings : goal.returns-in-err-workings
-returns-in-err-workings c = record { rows = search rules; agree = agree (map state_of c.args.readings.now) }
+pub returns-in_err-workings : goal.returns-in_err-workings
+returns-in_err-workings c = record { rows = search rules; agree = agree (map state_of c.args.readings.now) }
 
 pub loop-mark-init : goal.loop-mark-init
 loop-mark-init c =
@@ -20,21 +20,21 @@ loop-mark-init c =
 pub exposed-open-requires : goal.exposed-open-requires
 exposed-open-requires c =
     let rs = map state_of c.args.readings.now in
-    let links = c.in-ok-rule.rule.links in
-    let items = c.in-ok-rule.ensures.0 in
-    let len = table_length rs (vec_items links) c.links-above-count.result (vec_len links) items links.ok.0 in
-    record { within = omega (arith, len, c.links-above-count.ensures c.loop-mark.mark-index c.loop-mark-test.true); links = items ∙ ap (links_to rs) (sym len); aside = c.in-ok-rule.ensures.1 }
+    let links = c.in_ok-rule.rule.links in
+    let items = c.in_ok-rule.ensures.0 in
+    let len = table_length rs (vec_items links) c.links_above-count.result (vec_len links) items links.ok.0 in
+    record { within = omega (arith, len, c.links_above-count.ensures c.loop-mark.mark-index c.loop-mark-test.true); links = items ∙ ap (links_to rs) (sym len); aside = c.in_ok-rule.ensures.1 }
 
-pub returns-in-err-put-row : goal.returns-in-err-put-row
-returns-in-err-put-row c = record { rows = search rules; agree = agree (map state_of c.args.readings.now) }
+pub returns-in_err-put_row : goal.returns-in_err-put_row
+returns-in_err-put_row c = record { rows = search rules; agree = agree (map state_of c.args.readings.now) }
 
 pub loop-mark-preserved : goal.loop-mark-preserved
 loop-mark-preserved c =
     let inv = c.loop-mark.invariant in (
       ap (λ k. k + 1) inv.0,
-      row_put (map state_of c.args.readings.now) (vec_items c.args.out.now) (vec_items c.loop-mark.out) (vec_items c.put-row.new.out) c.args.marks.now
+      row_put (map state_of c.args.readings.now) (vec_items c.args.out.now) (vec_items c.loop-mark.out) (vec_items c.put_row.new.out) c.args.marks.now
           c.loop-mark.mark-index c.loop-mark.number blank _ _ c.loop-mark-test.true inv.1 inv.0 c.exposed-open.ensures c.known-known.ensures.value
-          c.in-ok-put-row.ensures,
+          c.in_ok-put_row.ensures,
     )
 
 pub returns : goal.returns

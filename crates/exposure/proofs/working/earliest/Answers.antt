@@ -10,7 +10,7 @@ loop-side-init c = λ i. sym (any_none (reaches c.args.link i))
 pub loop-side-preserved : goal.loop-side-preserved
 loop-side-preserved c = λ i.
     let x = c.side-item.result in
-    c.with-side-start.ensures i ∙ (ap (λ (b : Bool). b || reaches c.args.link i (state_of x)) (c.loop-side.invariant i)
+    c.with_side-start.ensures i ∙ (ap (λ (b : Bool). b || reaches c.args.link i (state_of x)) (c.loop-side.invariant i)
     ∙ sym (any_more (reaches c.args.link i) c.args.readings.now c.loop-side.side-index x c.side-item.is c.loop-side-test.true))
 
 pub returns : goal.returns

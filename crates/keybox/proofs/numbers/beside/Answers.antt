@@ -4,4 +4,4 @@ use Rattle.keybox.proofs.Named.{behind}
 use Rattle.keybox.proofs.numbers.beside.Goals as goal
 
 pub returns : goal.returns
-returns c = behind c.args.first.now.0 c.copy-from-slice.new.self _ (omega arith) c.copy-from-slice.ensures.after
+returns c = behind c.args.first.now.0 c.copy_from_slice.new.self _ (omega arith) c.copy_from_slice.ensures.after

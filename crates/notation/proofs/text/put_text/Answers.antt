@@ -8,7 +8,7 @@ pub loop-b-preserved : goal.loop-b-preserved
 loop-b-preserved c =
     let text = c.args.text.now in
     let i = c.loop-b.b-index in
-    c.in-ok-put-byte.ensures ∙ (ap (λ (l : List ℕ). l ++ escaped_byte (get_or text i 0)) c.loop-b.invariant
+    c.in_ok-put_byte.ensures ∙ (ap (λ (l : List ℕ). l ++ escaped_byte (get_or text i 0)) c.loop-b.invariant
     ∙ escaped-more (vec_items c.args.out.now) text i c.loop-b-test.true)
 
 pub returns : goal.returns

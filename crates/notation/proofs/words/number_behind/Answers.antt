@@ -7,4 +7,4 @@ pub returns-then-at-line : goal.returns-then-at-line
 returns-then-at-line c = ap number_of (sym (drop_all c.args.at c.args.line.now (omega arith)))
 
 pub returns : goal.returns
-returns c = c.parse-number.ensures ∙ ap number_of (take_rest c.args.line.now c.args.at)
+returns c = c.parse_number.ensures ∙ ap number_of (take_rest c.args.line.now c.args.at)

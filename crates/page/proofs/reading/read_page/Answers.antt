@@ -42,6 +42,6 @@ returns c =
     let held = session_is b s slots n count state c.secret-at.ensures c.secret-at-2.ensures c.secret-at-3.ensures c.secret-at-4.ensures
     c.count-in-count.ensures c.restore.ensures.keys in
     record {
-      page = is_page c.args.who b _ (λ i. (c.type-inv.bytes i).fits) whole sound held;
+      page = is_page c.args.who b _ (λ i. (c.type_inv.bytes i).fits) whole sound held;
       wiped = session_wiped b s slots n count c.restore.ensures.rest;
     }

@@ -6,6 +6,6 @@ use Rattle.wire.proofs.writing.four_bytes.Goals as goal
 
 pub returns : goal.returns
 returns c = record {
-  bytes = c.to-be-bytes.ensures;
-  value = ap (λ (x : List ℕ). four_at x 0) c.to-be-bytes.ensures ∙ four-value c.args.n c.ranges.n.fits;
+  bytes = c.to_be_bytes.ensures;
+  value = ap (λ (x : List ℕ). four_at x 0) c.to_be_bytes.ensures ∙ four-value c.args.n c.ranges.n.fits;
 }

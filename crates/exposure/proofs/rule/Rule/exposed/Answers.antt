@@ -10,11 +10,11 @@ returns-then-index c =
     or_first _ _ _ (in_table (map state_of c.args.readings.now) (vec_items links) (vec_len links) c.args.mark.link _ _ c.requires.links c.requires.within c.index.ensures)
     c.if-index.true
 
-pub key-seen-requires : goal.key-seen-requires
-key-seen-requires c m = ap (has m) c.as-slice.ensures.value ∙ c.requires.aside m
+pub key_seen-requires : goal.key_seen-requires
+key_seen-requires c m = ap (has m) c.as_slice.ensures.value ∙ c.requires.aside m
 
 pub returns-else-index : goal.returns-else-index
 returns-else-index c =
     let links = c.args.self.now.links in
     or_second _ _ _ _ (in_table (map state_of c.args.readings.now) (vec_items links) (vec_len links) c.args.mark.link _ _ c.requires.links c.requires.within c.index.ensures)
-    c.if-index.false c.key-seen.ensures
+    c.if-index.false c.key_seen.ensures

@@ -7,11 +7,11 @@ pub returns : goal.returns
 returns c =
     let o0 = vec_items c.args.out.now in
     let o1 = vec_items c.put.new.out in
-    let o2 = vec_items c.put-labelled.new.out in
-    let o3 = vec_items c.put-labelled-2.new.out in
+    let o2 = vec_items c.put_labelled.new.out in
+    let o3 = vec_items c.put_labelled-2.new.out in
     let p1 = name_of c.args.who in
     let p2 = labelled (codes ": drawn ") c.args.drawn in
     let p3 = labelled (codes "; root ") c.args.drawn in
-    let named = c.in-ok-put.ensures ∙ ap (λ (l : List ℕ). o0 ++ l) (c.as-bytes.ensures.value ∙ c.name.ensures) in
-    let f2 = append_two o1 p2 p3 o2 o3 c.in-ok-put-labelled.ensures c.in-ok-put-labelled-2.ensures in
+    let named = c.in_ok-put.ensures ∙ ap (λ (l : List ℕ). o0 ++ l) (c.as_bytes.ensures.value ∙ c.name.ensures) in
+    let f2 = append_two o1 p2 p3 o2 o3 c.in_ok-put_labelled.ensures c.in_ok-put_labelled-2.ensures in
     append_two o0 p1 (p2 ++ p3) o1 o3 named f2

@@ -12,7 +12,7 @@ pub loop-mark-preserved : goal.loop-mark-preserved
 loop-mark-preserved c =
     let ms = c.args.marks.now in
     let i = c.loop-mark.mark-index in
-    c.in-ok-put-spaced.ensures ∙ (ap (λ (l : List ℕ). l ++ spaced_mark (get_or ms i blank)) c.loop-mark.invariant
+    c.in_ok-put_spaced.ensures ∙ (ap (λ (l : List ℕ). l ++ spaced_mark (get_or ms i blank)) c.loop-mark.invariant
     ∙ marks-more (vec_items c.args.out.now) ms i blank c.loop-mark-test.true)
 
 pub returns : goal.returns

@@ -18,5 +18,5 @@ returns-then-number-eq0 c = λ there.
 pub returns : goal.returns
 returns c = λ there.
     let e = found c.args.player.now c.args.number c.index-letter.result.now c.if-number-eq0.false (omega arith) c.index-letter.ensures in
-    c.in-ok-put-taking.ensures
-    ∙ ap (λ (l : List ℕ). vec_items c.args.out.now ++ taking_line c.args.number l c.args.outcome) (c.as-slice.ensures.value ∙ ap (λ (x : Post). x.text) e)
+    c.in_ok-put_taking.ensures
+    ∙ ap (λ (l : List ℕ). vec_items c.args.out.now ++ taking_line c.args.number l c.args.outcome) (c.as_slice.ensures.value ∙ ap (λ (x : Post). x.text) e)

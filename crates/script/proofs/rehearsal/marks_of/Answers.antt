@@ -10,7 +10,7 @@ loop-letter-preserved c =
     let ls = c.args.letters.now in
     let i = c.loop-letter.letter-index in
     let l = c.letter-item.result in
-    c.in-ok-push.ensures.items
+    c.in_ok-push.ensures.items
     ∙ (ap (λ (ms : List Mark). ms ++ mark_of l ∷ []) c.loop-letter.invariant
     ∙ (ap (λ (x : Letter). map mark_of (take i ls) ++ mark_of x ∷ []) c.letter-item.is ∙ sym (map_more mark_of ls i l c.loop-letter-test.true)))
 

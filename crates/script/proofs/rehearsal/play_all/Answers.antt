@@ -10,20 +10,20 @@ loop-at-init c = begun
 
 pub loop-at-preserved : goal.loop-at-preserved
 loop-at-preserved c =
-    let end = c.line-end-end.result in
-    let e = c.line-end-end.ensures in
+    let end = c.line_end-end.result in
+    let e = c.line_end-end.ensures in
     let ends : EndsLine c.args.script.now c.loop-at.at end = record { from = e.from; bound = e.bound; whole = e.whole; ended = e.ended } in
     subst (λ (n : ℕ). Through c.args.view c.args.script.now c.args.player.now (vec_items c.args.out.now) (end + 1) n c.turn.new.player (vec_items c.turn.new.out))
-    (sym c.saturating-add-number.ensures)
-    (onward c.loop-at.invariant c.loop-at-test.true end ends c.in-ok-played.played c.in-ok-played.ensures c.in-default.not-Bad)
+    (sym c.saturating_add-number.ensures)
+    (onward c.loop-at.invariant c.loop-at-test.true end ends c.in_ok-played.played c.in_ok-played.ensures c.in_default.not-Bad)
 
 pub returns-in-Bad : goal.returns-in-Bad
 returns-in-Bad c =
-    let end = c.line-end-end.result in
-    let e = c.line-end-end.ensures in
+    let end = c.line_end-end.result in
+    let e = c.line_end-end.ensures in
     let ends : EndsLine c.args.script.now c.loop-at.at end = record { from = e.from; bound = e.bound; whole = e.whole; ended = e.ended } in
     let turned = subst (λ (b : Played). Turned c.args.view c.loop-at.number (line_at c.args.script.now c.loop-at.at end) c.loop-at.player c.turn.new.player
-    (vec_items c.loop-at.out) (vec_items c.turn.new.out) b) c.in-Bad.is c.in-ok-played.ensures in
+    (vec_items c.loop-at.out) (vec_items c.turn.new.out) b) c.in-Bad.is c.in_ok-played.ensures in
     let bad = bad_line c.loop-at.invariant c.loop-at-test.true end ends c.in-Bad.why turned in
     record { ended = bad; lawful = ended-lawful bad }
 

@@ -7,12 +7,12 @@ pub returns-then-message-lt47 : goal.returns-then-message-lt47
 returns-then-message-lt47 c = λ header text long small room is.
     absurd (omega (arith, head_long c.args.message.now header (sealed c.args.key.now.0 header text) long is, c.if-message-lt47.true))
 
-pub returns-in-default : goal.returns-in-default
-returns-in-default c = λ header text long small room is.
+pub returns-in_default : goal.returns-in_default
+returns-in_default c = λ header text long small room is.
     let xs = sealed c.args.key.now.0 header text in
     let head = head_part c.args.message.now header xs long is in
     let body = body_part c.args.message.now header xs long is in
-    let undone = c.in-default.ensures.undoes text (body ∙ ap (λ h. sealed c.args.key.now.0 h text) (sym head)) (omega arith) room in
+    let undone = c.in_default.ensures.undoes text (body ∙ ap (λ h. sealed c.args.key.now.0 h text) (sym head)) (omega arith) room in
     let never = undone.opened in
     let z : ◌≡◌ {A = ℕ} 0 1 = cc never in
     absurd (omega arith)

@@ -11,6 +11,6 @@ returns-in-None g c = record {
       let joint = g.B.KeyBox.joint_of in
       let half = c.args.header.now.half.0 in
       text_new_lem g.B.KeyBox.half_of joint k c.args.session.now slots c.args.header.now c.args.message.now _ _ _ _ None
-      (sym (c.in-Some.ensures ∙ ap (λ (l : Option ℕ). given joint l half) e)) c.link.ensures.chain_is refl c.key-at.ensures.key
+      (sym (c.in-Some.ensures ∙ ap (λ (l : Option ℕ). given joint l half) e)) c.link.ensures.chain_is refl c.key_at.ensures.key
       (c.in-None.ensures.opens g.B.KeyBox.half_of joint);
 }

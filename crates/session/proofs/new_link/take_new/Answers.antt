@@ -10,18 +10,18 @@ use Rattle.session.proofs.NewLinks.{opened_new, shut_new, text_begun, book_new, 
 use Rattle.session.proofs.NewLinks.{text_new_lem}
 use Rattle.session.proofs.new_link.take_new.Goals as goal
 
-pub returns-in-default : goal.returns-in-default
-returns-in-default g c = record {
+pub returns-in_default : goal.returns-in_default
+returns-in_default g c = record {
   leaves = (refl, refl, refl);
   answer = λ k e.
       let s = c.args.session in
       let few = s.side.few in
-      let over = c.left-over-left.ensures in
+      let over = c.left_over-left.ensures in
       let size : length s.side.marks ≡ 512 = search rules in (
         refl,
         λ fresh. record {
           step = shut_new (ours g.B.KeyBox.half_of g.B.KeyBox.joint_of) (draw_of k) fresh (held_of s c.args.slots.now) (parts_of c.args.header.now c.args.message.now)
-              (c.in-default.ensures.begins k e c.args.slots.now) s.side.count (length-take-le s.side.count s.side.marks (omega arith)) (omega (arith, over)) (omega arith) (omega (arith, over));
+              (c.in_default.ensures.begins k e c.args.slots.now) s.side.count (length-take-le s.side.count s.side.marks (omega arith)) (omega (arith, over)) (omega arith) (omega (arith, over));
           session = refl;
           slots = refl;
         },
@@ -56,7 +56,7 @@ returns-in-Opened g c = record {
       let begins = c.in-Some.ensures.begins k e in
       let before : length s.side.marks ≡ 512 = search rules in
       let after : length c.in-Opened.side.marks ≡ 512 = search rules in
-      turned box.last_key box.fresh_key box.next_key box.half_of box.joint_of k s c.in-Opened.side c.in-Some.begun header c.args.message.now c.open-new.new.text
-      c.args.slots.now c.turn.new.slots c.args.own.now c.turn.new.own c.left-over-left.result
-      (c.in-Opened.ensures.answer ∙ book_new (state_of s.side) header c.requires.turn c.requires.aside c.requires.new) c.left-over-left.ensures begins before after c.turn.result c.turn.ensures;
+      turned box.last_key box.fresh_key box.next_key box.half_of box.joint_of k s c.in-Opened.side c.in-Some.begun header c.args.message.now c.open_new.new.text
+      c.args.slots.now c.turn.new.slots c.args.own.now c.turn.new.own c.left_over-left.result
+      (c.in-Opened.ensures.answer ∙ book_new (state_of s.side) header c.requires.turn c.requires.aside c.requires.new) c.left_over-left.ensures begins before after c.turn.result c.turn.ensures;
 }

@@ -25,7 +25,7 @@ returns-in-Made g c =
         sending = c.link.ensures.chain_is;
         taking = refl;
         turned = refl;
-        keys = λ half_of joint_of. both_keys c.args.slots.now c.put-along.new.slots c.put-along-in-Made.new.slots s.side.count c.args.left _ _ _ (c.put-along.ensures.keys half_of joint_of) (c.put-along-in-Made.ensures.keys half_of joint_of);
-        rest = both_rest c.args.slots.now c.put-along.new.slots c.put-along-in-Made.new.slots s.side.count c.args.left _ c.put-along.ensures.rest c.put-along-in-Made.ensures.rest;
+        keys = λ half_of joint_of. both_keys c.args.slots.now c.put_along.new.slots c.put_along-in-Made.new.slots s.side.count c.args.left _ _ _ (c.put_along.ensures.keys half_of joint_of) (c.put_along-in-Made.ensures.keys half_of joint_of);
+        rest = both_rest c.args.slots.now c.put_along.new.slots c.put_along-in-Made.new.slots s.side.count c.args.left _ c.put_along.ensures.rest c.put_along-in-Made.ensures.rest;
       },
     )

@@ -15,8 +15,8 @@ use Rattle.session.proofs.InTurn.{only_kept}
 use Rattle.session.proofs.FromSlot.{opened_recalled, shut_recalled, in_use, text_recalled_lem, book_recalled, count_recalled, held_recalled_lem}
 use Rattle.session.proofs.recalled.take_recalled.Goals as goal
 
-pub returns-in-default : goal.returns-in-default
-returns-in-default c = λ half_of joint_of.
+pub returns-in_default : goal.returns-in_default
+returns-in_default c = λ half_of joint_of.
     let s = c.args.session in
     let slots = c.args.slots.now in
     let header = c.args.header.now in
@@ -25,7 +25,7 @@ returns-in-default c = λ half_of joint_of.
     let at = in_use s slots header c.args.i c.requires.slots size c.requires.found in
     record {
       step = shut_recalled (ours half_of joint_of) (held_of s slots) (parts_of header c.args.message.now)
-          (text_recalled_lem s slots header c.args.i c.requires.slots size c.requires.found (ours half_of joint_of) c.args.message.now _ None (key-slot slots s.side.count c.args.i _ at (omega arith)) (c.in-default.ensures half_of joint_of));
+          (text_recalled_lem s slots header c.args.i c.requires.slots size c.requires.found (ours half_of joint_of) c.args.message.now _ None (key-slot slots s.side.count c.args.i _ at (omega arith)) (c.in_default.ensures half_of joint_of));
       session = refl;
       slots = refl;
     }
@@ -68,7 +68,7 @@ returns-in-Opened c = λ half_of joint_of.
           opened_recalled (ours half_of joint_of) (held_of s slots) (parts_of header c.args.message.now) _ _
           (text_recalled_lem s slots header i c.requires.slots size c.requires.found (ours half_of joint_of) c.args.message.now _ _ (key-slot slots s.side.count i _ at (omega arith)) (c.in-Some.ensures.1 half_of joint_of))
           answer
-          ∙ ap (λ (h : Held). exchange.opened h (take c.in-Some.size c.open-text.new.text) false)
+          ∙ ap (λ (h : Held). exchange.opened h (take c.in-Some.size c.open_text.new.text) false)
           (held_recalled_lem s slots header i c.requires.slots size c.requires.found t after state tsize c.args.message.now refl refl refl refl front);
       short = c.in-Some.ensures.0;
       wiped = λ w.

@@ -20,8 +20,8 @@ returns-in-Sealed c =
     record {
       step = λ slots half_of joint_of.
           send_step half_of joint_of slots s t c.args.text.now _ kept count refl c.advance.ensures.next_is refl refl
-          (c.write-message-size.ensures.bytes
+          (c.write_message-size.ensures.bytes
           ∙ message-bytes half_of joint_of (held_of s slots) c.args.text.now _ c.advance.result.0.0 message refl refl c.advance.ensures.key_is);
-      counted = c.write-message-size.ensures.counted;
-      rest = c.write-message-size.ensures.rest;
+      counted = c.write_message-size.ensures.counted;
+      rest = c.write_message-size.ensures.rest;
     }

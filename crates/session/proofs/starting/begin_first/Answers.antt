@@ -11,8 +11,8 @@ returns-in-Made g c =
     let box = g.B.KeyBox in
     let made = c.in-Made.ensures in
     let drawn = made.drawn in
-    let size : length c.first-side.result.marks ≡ 512 = search rules in
-    let s : Session = record { side = c.first-side.result; root = c.link.result.0; sending = c.link.result.1; taking = record { 0 = blank }; half = c.in-Made.half } in
+    let size : length c.first_side.result.marks ≡ 512 = search rules in
+    let s : Session = record { side = c.first_side.result; root = c.link.result.0; sending = c.link.result.1; taking = record { 0 = blank }; half = c.in-Made.half } in
     record {
       key = drawn.key;
       draws = record {
@@ -23,6 +23,6 @@ returns-in-Made g c =
       };
       held = λ slots.
           first_holds box.half_of box.joint_of drawn.key s c.args.secret.0 slots size drawn.half_is refl c.args.theirs.now.0 c.in-Made.joint.0
-          c.first-side.ensures made.gives c.link.ensures.root_is c.link.ensures.chain_is;
-      empty = none-aside c.first-side.result 1 size c.first-side.ensures;
+          c.first_side.ensures made.gives c.link.ensures.root_is c.link.ensures.chain_is;
+      empty = none-aside c.first_side.result 1 size c.first_side.ensures;
     }

@@ -10,8 +10,8 @@ pub returns : goal.returns
 returns g c =
     let box = g.B.KeyBox in
     let drawn = c.in-Some.ensures in
-    let size : length c.second-side.result.marks ≡ 512 = search rules in
-    let s : Session = record { side = c.second-side.result; root = c.args.secret; sending = record { 0 = blank }; taking = record { 0 = blank }; half = c.in-Some.half } in
+    let size : length c.second_side.result.marks ≡ 512 = search rules in
+    let s : Session = record { side = c.second_side.result; root = c.args.secret; sending = record { 0 = blank }; taking = record { 0 = blank }; half = c.in-Some.half } in
     record {
       key = drawn.key;
       draws = record {
@@ -20,6 +20,6 @@ returns g c =
         new = drawn.new;
         past = omega (arith, drawn.past, c.keep.ensures.next);
       };
-      held = λ slots. ap (λ (h : Held). Some h) (second_holds box.half_of box.joint_of drawn.key s c.args.secret.0 slots size drawn.half_is refl c.second-side.ensures refl refl);
-      empty = none-aside c.second-side.result 0 size c.second-side.ensures;
+      held = λ slots. ap (λ (h : Held). Some h) (second_holds box.half_of box.joint_of drawn.key s c.args.secret.0 slots size drawn.half_is refl c.second_side.ensures refl refl);
+      empty = none-aside c.second_side.result 0 size c.second_side.ensures;
     }

@@ -27,8 +27,8 @@ returns-in-Err g c =
       output = refl;
     }
 
-pub take-into-requires : goal.take-into-requires
-take-into-requires g c =
+pub take_into-requires : goal.take_into-requires
+take_into-requires g c =
     let read = was_read c.args.message.now c.in-Ok.header c.in-Ok.ensures.answer in
     record { slots = search rules; long = read.long; short = read.short; room = search rules; out = search rules }
 
@@ -37,10 +37,10 @@ returns g c =
     let box = g.B.KeyBox in
     let read = was_read c.args.message.now c.in-Ok.header c.in-Ok.ensures.answer in
     record {
-      leaves = c.take-into.ensures.leaves;
+      leaves = c.take_into.ensures.leaves;
       answer = λ k e.
-          taken_as box.last_key box.fresh_key box.next_key c.args.session c.args.slots.now c.take-into.new.slots _ _
+          taken_as box.last_key box.fresh_key box.next_key c.args.session c.args.slots.now c.take_into.new.slots _ _
           (λ fresh. ap (λ (x : Option Parts). exchange.take_read (ours box.half_of box.joint_of) (draw_of k) fresh (held_of c.args.session c.args.slots.now) x) read.message)
-          c.take-into.new.out c.args.own.now c.take-into.new.own c.take-into.result (c.take-into.ensures.answer k e);
-      output = c.take-into.ensures.output;
+          c.take_into.new.out c.args.own.now c.take_into.new.own c.take_into.result (c.take_into.ensures.answer k e);
+      output = c.take_into.ensures.output;
     }

@@ -9,8 +9,8 @@ returns-in-Opened g c =
     record {
       leaves = c.in-Opened.ensures.leaves;
       answer = λ k e.
-          handed box.last_key box.fresh_key box.next_key c.args.session c.args.slots.now c.take-read.new.slots _ c.take-read.new.text c.hand-out.new.out c.args.own.now c.take-read.new.own c.in-Opened.next c.in-Opened.size
-          c.hand-out.ensures.text (c.in-Opened.ensures.answer k e);
-      output = c.hand-out.ensures.rest;
+          handed box.last_key box.fresh_key box.next_key c.args.session c.args.slots.now c.take_read.new.slots _ c.take_read.new.text c.hand_out.new.out c.args.own.now c.take_read.new.own c.in-Opened.next c.in-Opened.size
+          c.hand_out.ensures.text (c.in-Opened.ensures.answer k e);
+      output = c.hand_out.ensures.rest;
       blank = search rules;
     }

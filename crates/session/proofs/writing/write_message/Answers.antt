@@ -7,14 +7,14 @@ use Rattle.session.proofs.writing.write_message.Goals as goal
 pub returns : goal.returns
 returns c =
     let key = c.args.key.now.0 in
-    let bytes = c.write-header-bytes.result in
-    let is = c.write-header-bytes.ensures.bytes in
+    let bytes = c.write_header-bytes.result in
+    let is = c.write_header-bytes.ensures.bytes in
     let size : length bytes ≡ 47 = omega arith in
     record {
       bytes =
-          message_front key bytes c.args.text.now c.args.out.now c.put-header.new.out c.put-text.new.out c.put-header.ensures size c.put-text.ensures
+          message_front key bytes c.args.text.now c.args.out.now c.put_header.new.out c.put_text.new.out c.put_header.ensures size c.put_text.ensures
           ∙ ap (λ (h : List ℕ). h ++ sealed key h c.args.text.now) is;
-      rest = message_rest key bytes c.args.text.now c.args.out.now c.put-header.new.out c.put-text.new.out c.put-header.ensures size c.put-text.ensures;
+      rest = message_rest key bytes c.args.text.now c.args.out.now c.put_header.new.out c.put_text.new.out c.put_header.ensures size c.put_text.ensures;
       counted = refl;
       blank = refl;
     }

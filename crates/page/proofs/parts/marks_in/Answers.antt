@@ -7,7 +7,7 @@ pub loop-i-init : goal.loop-i-init
 loop-i-init c = marked_none c.args.entries.now
 
 pub loop-i-preserved : goal.loop-i-preserved
-loop-i-preserved c = marked_more c.loop-i.marks c.args.entries.now c.loop-i.i c.mark-at.result (omega arith) c.mark-at.ensures c.loop-i.invariant
+loop-i-preserved c = marked_more c.loop-i.marks c.args.entries.now c.loop-i.i c.mark_at.result (omega arith) c.mark_at.ensures c.loop-i.invariant
 
 pub returns : goal.returns
 returns c =

@@ -6,6 +6,6 @@ use Rattle.page.proofs.parts.side_in.Goals as goal
 pub returns : goal.returns
 returns c =
     let behind = take_rest c.args.bytes.now 147 in
-    let marks = c.marks-in-marks.ensures.marks in
+    let marks = c.marks_in-marks.ensures.marks in
     let count = c.requires.counted in
     record { state = cc; count = refl }

@@ -12,15 +12,15 @@ use Rattle.page.proofs.sound.are_aside.Goals as goal
 pub loop-mark-init : goal.loop-mark-init
 loop-mark-init c = tt
 
-pub returns-then-not-is-aside : goal.returns-then-not-is-aside
-returns-then-not-is-aside c =
-    decides_no (λ all. not_from_Decides c.is-aside.result c.is-aside.ensures c.if-not-is-aside.true
+pub returns-then-not-is_aside : goal.returns-then-not-is_aside
+returns-then-not-is_aside c =
+    decides_no (λ all. not_from_Decides c.is_aside.result c.is_aside.ensures c.if-not-is_aside.true
     (All-get_or (Aside c.args.drawn c.args.taken) c.args.marks.now c.loop-mark.mark-index blank c.loop-mark-test.true all))
 
 pub loop-mark-preserved : goal.loop-mark-preserved
 loop-mark-preserved c =
     All-more (Aside c.args.drawn c.args.taken) c.args.marks.now c.loop-mark.mark-index blank c.loop-mark-test.true c.loop-mark.invariant
-    (c.is-aside.ensures.0 c.if-not-is-aside.false)
+    (c.is_aside.ensures.0 c.if-not-is_aside.false)
 
 pub returns : goal.returns
 returns c =

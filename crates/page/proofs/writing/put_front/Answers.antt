@@ -7,4 +7,4 @@ use Rattle.page.proofs.writing.put_front.Goals as goal
 pub returns : goal.returns
 returns c = λ slots.
     front-put (held_of c.args.session.now slots) c.args.out.now _ _ _ _ _ (search rules) (search rules) (search rules) (search rules)
-    c.put-counts.ensures c.put.ensures c.put-2.ensures c.put-3.ensures c.put-4.ensures
+    c.put_counts.ensures c.put.ensures c.put-2.ensures c.put-3.ensures c.put-4.ensures

@@ -11,7 +11,7 @@ use Rattle.exchange.specs.Outside.{Draw, Outside, Lawful}
 use Rattle.exchange.specs.Wire.{Parts, parts_of, read_message}
 use Rattle.exchange.specs.Held.{Ground, drawer, draw_of, hold}
 use Rattle.exchange.specs.Exchanges.{Taken, kept_out, text_of, take_message, take_read}
-use Rattle.exchange.specs.Network.{Letter, Party, World, Event, sends, comes, reads, party, with_party, draw_by, own_of, fresh_of, take_answer, after_send, after_take, step, run}
+use Rattle.exchange.specs.Network.{Letter, Party, World, Event, sends, comes, reads, party, with_party, draw_by, own_of, fresh_of, take_answer, after_send, after_take, step}
 use Rattle.exchange.specs.Model.{model_world, on_net, effects_of, take_event, model_event, draws_of, ground_of}
 use Rattle.exchange.specs.Promise.{OpensIfSent, Unforged, Stranger, no_message, stays_out}
 use Rattle.exchange.proofs.Wires.{read_well}

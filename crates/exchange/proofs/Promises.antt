@@ -17,7 +17,7 @@ use Rattle.runs.proofs.Promises.{every-run}
 use Rattle.exchange.specs.Outside.{Draw, Outside, Lawful}
 use Rattle.exchange.specs.Wire.{Parts, read_message}
 use Rattle.exchange.specs.Held.{Held, Ground, draw_of, hold}
-use Rattle.exchange.specs.Exchanges.{Taken, opened, kept_out, take_in_turn, take_recalled, take_new, take_message, take_read}
+use Rattle.exchange.specs.Exchanges.{Taken, kept_out, take_in_turn, take_recalled, take_new, take_message, take_read}
 use Rattle.exchange.specs.Network.{Letter, Reading, World, Event, party, own_of, fresh_of, take_answer, start, step, run}
 use Rattle.exchange.specs.Model.{model_world, model_event, model_events, on_net, ground_of}
 use Rattle.exchange.specs.Promise.{OpensIfSent, NoneForged, after, events_of, ground, Sized, read_as, Arrives, opens, stays_out, box_empty, Through, was_opened, opens_now, limited, Stranger, BytesKeep, EveryExchange}

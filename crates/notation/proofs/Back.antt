@@ -1,12 +1,11 @@
 -- What is written is read back: texts byte by byte, numbers digit by digit.
-use Rattle.std.proofs.Common.{◌≡◌, ℕ, zero, suc, ◌+◌, ◌-◌, ◌*◌, ◌/◌, ◌%◌, ◌^◌, ◌<◌, ◌≤◌, Bool, true, false, cond, eqb, ltb, leb, ◌⊎◌, List, [], ◌∷◌, ◌++◌, Some, None, decimal, fold, Option, sym, refl, ap, ◌∙◌, subst, inl, inr, append_assoc, append-nil, arith}
+use Rattle.std.proofs.Common.{◌≡◌, ℕ, zero, suc, ◌+◌, ◌-◌, ◌*◌, ◌/◌, ◌%◌, ◌^◌, ◌<◌, Bool, true, false, cond, eqb, ltb, leb, ◌⊎◌, List, [], ◌∷◌, ◌++◌, Some, None, fold, Option, sym, refl, ap, ◌∙◌, inl, inr, append_assoc, append-nil, arith}
 use Rattle.std.specs.List.{AllByRecursion as All}
 use Rattle.std.proofs.lemmas.Fmt.{decimal_by_steps}
 use Rattle.std.proofs.lemmas.List.Sums.{fold_push}
-use Rattle.std.proofs.lemmas.Bool.{ne_eqb, eqb-true, eqb-false, or_parts, cond-true, cond-false, lt-ltb, le-leb, and_from, cases_Bool}
-use Rattle.notation.specs.declared.text.Escape.{Escape}
-use Rattle.notation.specs.declared.text.Escape.TheVariants.{Plain, Slash, Hex, Digit, Bad}
-use Rattle.notation.specs.Escapes.{Scan, scan, escaped, escaped_byte, hidden, hex_digit, hex_value, after_digit, after_last, last_digit, ended, unescaped}
+use Rattle.std.proofs.lemmas.Bool.{or_parts, cond-true, cond-false, lt-ltb, le-leb, and_from, cases_Bool}
+use Rattle.notation.specs.declared.text.Escape.TheVariants.{Plain, Slash, Hex}
+use Rattle.notation.specs.Escapes.{Scan, scan, escaped, escaped_byte, hidden, hex_digit, hex_value, after_digit, after_last, last_digit, ended}
 use Rattle.notation.specs.Decimals.{digit_after, small, number_of}
 use Rattle.notation.specs.Laws.{TextsReadBack, NumbersReadBack}
 

@@ -1,6 +1,6 @@
 -- Numbers as scripts write them: decimal digits, at most 4,294,967,295.
 -- Assumes nothing.
-use Rattle.std.specs.Prelude.{ℕ, ◌+◌, ◌-◌, ◌*◌, ◌^◌, Bool, cond, ◌&&◌, List, [], ◌∷◌, Some, None, fold, Option, nat_le, nat_lt}
+use Rattle.std.specs.Prelude.{ℕ, ◌+◌, ◌-◌, ◌*◌, ◌^◌, cond, ◌&&◌, List, [], ◌∷◌, Some, None, fold, Option, nat_le, nat_lt}
 
 abbrev pub small : ℕ → Option ℕ
 small n = cond (nat_lt n (2 ^ 32)) (Some n) None

@@ -1,9 +1,9 @@
 -- A step that nothing refuses comes to the side after it.
-use Rattle.std.proofs.Common.{◌≡◌, ℕ, ◌+◌, ◌^◌, ◌<◌, ◌≤◌, Bool, true, false, cond, ◌&&◌, length, refl, ap, ◌∙◌}
+use Rattle.std.proofs.Common.{◌≡◌, ℕ, ◌+◌, ◌^◌, ◌<◌, ◌≤◌, Bool, true, false, ◌&&◌, length, refl, ◌∙◌}
 use Rattle.std.proofs.lemmas.Bool.{cond-true, cond-false, le-leb, lt-ltb, and_from}
 use Rattle.ratchet.specs.declared.types.Message.{Message}
 use Rattle.ratchet.specs.State.{State, has}
-use Rattle.ratchet.specs.Steps.{Answer, kept, checked, passed, left, short, room_for, fits, advanced, recalled, turned, take_in_turn, take_recalled, take_new, take, in_turn}
+use Rattle.ratchet.specs.Steps.{kept, checked, passed, left, short, room_for, advanced, recalled, turned, take_in_turn, take_recalled, take_new, take, in_turn}
 
 checked-kept : (w o f : Bool) (s : State) → w ≡ true → o ≡ true → f ≡ true → checked w o f s ≡ kept s
 checked-kept w o f s p q r = rw (p, q, r)

@@ -1,7 +1,6 @@
 -- What the answers of the calls mean: each case's number and values.
 -- Assumes nothing.
-use Rattle.std.specs.Prelude.{◌≡◌, ℕ}
-use Rattle.ratchet.specs.declared.types.Message.{Message}
+use Rattle.std.specs.Prelude.{◌≡◌}
 use Rattle.ratchet.specs.declared.sides.Side.{Side}
 use Rattle.ratchet.specs.declared.steps.Sent.{Sent}
 use Rattle.ratchet.specs.declared.steps.Sent.TheVariants as sent

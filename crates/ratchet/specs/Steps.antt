@@ -1,7 +1,6 @@
 -- The steps of a side: sending, and taking a message.
 -- Assumes nothing.
-use Rattle.std.specs.Prelude.{ℕ, ◌+◌, ◌-◌, ◌^◌, Bool, true, false, cond, not, ◌&&◌, ◌||◌, List, [], ◌∷◌, ◌++◌, length, ◌==◌, nat_le, nat_lt}
-use Rattle.ratchet.specs.declared.types.Mark.{Mark}
+use Rattle.std.specs.Prelude.{ℕ, ◌+◌, ◌-◌, ◌^◌, Bool, true, cond, ◌&&◌, ◌++◌, length, ◌==◌, nat_le, nat_lt}
 use Rattle.ratchet.specs.declared.types.Message.{Message}
 use Rattle.ratchet.specs.State.{State, has, without, places}
 

@@ -14,7 +14,7 @@ use Rattle.runs.proofs.Messages.{none-twice_none}
 use Rattle.runs.proofs.Steps.{Sent, nothing, sent, send-so, Taken, advances, recalls, turns, take-so}
 use Rattle.runs.proofs.Sides.{Kept, step_keeps, run-keeps}
 use Rattle.runs.proofs.Way.{sender, taker, Sealing, Opening, Way}
-use Rattle.runs.proofs.Sending.{sealed, left, way_wrote, way_sealed, way_left, way_turned}
+use Rattle.runs.proofs.Sending.{way_wrote, way_sealed, way_left, way_turned}
 use Rattle.runs.proofs.Taking.{Takes, took, advanced_takes, recalled_takes, turned_takes, ahead, way-handed}
 
 -- ### Both ways between a side q that makes a step and the other, p

@@ -1,9 +1,8 @@
 -- Every run keeps the laws.
 use Rattle.std.proofs.Common.{◌≡◌, ℕ, suc, ◌+◌, ◌<◌, ◌≤◌, true, false, List, [], ◌++◌, ap, ◌∙◌, inl, inr, arith}
-use Rattle.std.specs.List.{AllByRecursion as All}
 use Rattle.std.proofs.ByRecursion.{All-weaker}
 use Rattle.ratchet.specs.declared.types.Message.{Message}
-use Rattle.ratchet.specs.State.{State, has}
+use Rattle.ratchet.specs.State.{State}
 use Rattle.ratchet.specs.Steps.{take}
 use Rattle.runs.specs.declared.types.Who.{Who}
 use Rattle.runs.specs.declared.types.Who.TheVariants.{First, Second}
@@ -16,7 +15,7 @@ use Rattle.runs.proofs.Exposed.{exactly}
 use Rattle.runs.proofs.Sides.{run-append, run_keeps_side}
 use Rattle.runs.proofs.Shut.{Shut, shut_kept}
 use Rattle.runs.proofs.Closed.{Before, before-shut, Passed, passed_shut, shut_unknown, AllPassed, all_passed_run}
-use Rattle.runs.proofs.Way.{Sender, sender, taker, Sealed, Sealing, Opening, Way}
+use Rattle.runs.proofs.Way.{Sender, sender, taker, Sealing, Opening, Way}
 use Rattle.runs.proofs.Good.{Good, good, Old}
 use Rattle.runs.proofs.Arriving as arriving
 

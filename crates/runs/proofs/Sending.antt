@@ -4,7 +4,7 @@ use Rattle.ratchet.specs.declared.types.Message.{Message}
 use Rattle.ratchet.specs.Steps.{message, sends, turned}
 use Rattle.runs.specs.World.{Party, among, perform, write, seal, leave, keep}
 use Rattle.runs.proofs.Messages.{among-before, among-last, among_cases, none-twice_more}
-use Rattle.runs.proofs.Way.{Taker, sender, taker, Sealed, Sealing, Way}
+use Rattle.runs.proofs.Way.{Taker, sender, Sealed, Sealing, Way}
 
 -- the side after each effect of a send
 abbrev pub wrote : Party → Party

@@ -4,7 +4,7 @@ use lib.Dec.{eqb-suc-suc}
 use Rattle.std.proofs.lemmas.Bool.{or_from, ne_eqb}
 use Rattle.ratchet.specs.declared.types.Mark.{Mark}
 use Rattle.ratchet.specs.State.{State, has}
-use Rattle.chain.specs.Secret.{Secret, own, joint, mix, root, chain, key, root_of, link_of, chain_at, key_at}
+use Rattle.chain.specs.Secret.{Secret, own, joint, root_of, link_of, chain_at, key_at}
 use Rattle.runs.specs.Stock.{key_of, sending, taking, stock, stocks}
 use Rattle.runs.specs.Rule.{any_read, read_at}
 use Rattle.runs.specs.Working.{same_secret, in_stock}

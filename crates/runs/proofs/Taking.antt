@@ -11,7 +11,7 @@ use Rattle.runs.specs.World.{Party, among, perform, keep, hand}
 use Rattle.runs.proofs.Messages.{same-mark, mark-same, among-before, among-last, among_cases, none-twice_more}
 use Rattle.runs.proofs.Marks.{Apart, has-not, has_either, has_left, placed, without-had, without_other, without_gone, apart-append, apart-places, apart-without}
 use Rattle.runs.proofs.Steps.{advanced-had, advanced-has, left-placed, turned-had, turned-kept, turned-old, turned-new}
-use Rattle.runs.proofs.Way.{Sender, sender, taker, Sealed, Aside, Opened, Opening, Behind, Way}
+use Rattle.runs.proofs.Way.{Sender, taker, Sealed, Aside, Opened, Opening, Behind, Way}
 
 -- the side after the page is kept, with the message opened
 abbrev pub took : Party → State → Message → Party

@@ -1,11 +1,11 @@
 -- Worked cases: what happens, and what must then hold.
 -- Assumes nothing.
-use Rattle.std.specs.Prelude.{◌≡◌, ℕ, Bool, true, false, List, [], ◌∷◌}
+use Rattle.std.specs.Prelude.{◌≡◌, ℕ, true, false, List, [], ◌∷◌}
 use Rattle.ratchet.specs.declared.types.Mark.{Mark}
 use Rattle.ratchet.specs.declared.types.Message.{Message}
 use Rattle.runs.specs.declared.types.Who.TheVariants.{First, Second}
 use Rattle.ratchet.specs.State.{State}
-use Rattle.ratchet.specs.Steps.{Answer, kept, refused, message}
+use Rattle.ratchet.specs.Steps.{refused, message}
 use Rattle.runs.specs.World.{World, Event, sends, takes, reads, run, start, take_answer}
 use Rattle.runs.specs.Rule.{exposed, link_open}
 

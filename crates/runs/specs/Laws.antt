@@ -1,9 +1,9 @@
 -- What is promised of every run of the two sides.
 -- Assumes nothing.
-use Rattle.std.specs.Prelude.{◌≡◌, ℕ, suc, ◌+◌, ◌^◌, ◌<◌, ◌≤◌, Bool, true, false, ◌⊎◌, List, [], ◌∷◌, ◌++◌, map, length, Decides, ◌≢◌, slice_index_or}
+use Rattle.std.specs.Prelude.{◌≡◌, ℕ, suc, ◌+◌, ◌^◌, ◌<◌, ◌≤◌, Bool, true, false, List, [], ◌++◌, map, length, Decides, ◌≢◌, slice_index_or}
 use Rattle.ratchet.specs.declared.types.Message.{Message}
 use Rattle.ratchet.specs.State.{State}
-use Rattle.ratchet.specs.Steps.{Answer, kept, refused, in_turn, is_new, passed, left}
+use Rattle.ratchet.specs.Steps.{kept, refused, in_turn, is_new, passed, left}
 use Rattle.runs.specs.declared.types.Who.{Who}
 use Rattle.chain.specs.Secret.{Secret, shared, Knows, key_at}
 use Rattle.runs.specs.Stock.{key_of, stock, stocks}

@@ -1,6 +1,6 @@
 -- Whether a secret can be worked out from some others, as a computation.
 -- Assumes nothing.
-use Rattle.std.specs.Prelude.{ℕ, suc, Bool, true, false, ◌&&◌, ◌||◌, List, [], ◌∷◌}
+use Rattle.std.specs.Prelude.{suc, Bool, true, false, ◌&&◌, ◌||◌, List, [], ◌∷◌}
 use Rattle.std.proofs.Math.Decide.{ℕ_discrete}
 use Rattle.chain.specs.Secret.{Secret, Secret-discrete, shared, own, joint, mix, root, chain, next, key}
 

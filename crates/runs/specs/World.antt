@@ -1,6 +1,6 @@
 -- The two sides and all that happened to them: what was sealed, what left, what was opened and handed out, what was read.
 -- Assumes that whatever opens was sent: `opens` below.
-use Rattle.std.specs.Prelude.{ℕ, zero, suc, Bool, true, false, cond, ◌&&◌, ◌||◌, List, [], ◌∷◌, ◌++◌}
+use Rattle.std.specs.Prelude.{ℕ, zero, suc, Bool, false, ◌&&◌, ◌||◌, List, [], ◌∷◌, ◌++◌}
 use Rattle.runs.specs.declared.types.Who.{Who}
 use Rattle.runs.specs.declared.types.Who.TheVariants.{First, Second}
 use Rattle.ratchet.specs.declared.types.Message.{Message}

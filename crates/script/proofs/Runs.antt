@@ -1,8 +1,7 @@
 -- A line that is played is a step of the world or none, and so a script is a run.
-use Rattle.std.proofs.Common.{◌≡◌, ℕ, ◌⊎◌, List, [], ◌∷◌, ◌++◌, length, drop, Some, None, Option, sym, refl, ap, ◌∙◌, inl, inr}
+use Rattle.std.proofs.Common.{◌≡◌, ℕ, List, [], ◌∷◌, ◌++◌, length, drop, Some, None, Option, sym, refl, ap, ◌∙◌, inl, inr}
 use Rattle.runs.specs.declared.types.Who.{Who}
-use Rattle.runs.specs.World.{World, Event, step, run, start, reads, sends, takes, other}
-use Rattle.runs.specs.Laws.{Laws}
+use Rattle.runs.specs.World.{World, Event, step, run, reads, sends, takes, other}
 use Rattle.runs.proofs.Sides.{run-append}
 use Rattle.runs.proofs.Promises.{every-run}
 use Rattle.script.specs.declared.commands.Command.{Command}
@@ -15,12 +14,11 @@ use Rattle.notation.specs.Escapes.{unescaped}
 use Rattle.stage.specs.Players.{world_of, numbered, whole, due_for, DeliveryIs}
 use Rattle.stage.specs.Plan.{up_to}
 use Rattle.script.specs.Played.{SendText, LinePlayed}
-use Rattle.script.specs.declared.play.BadLine.{BadLine}
 use Rattle.script.specs.declared.rehearsal.Ending.{Ending}
 use Rattle.script.specs.declared.rehearsal.View.{View}
 use Rattle.script.specs.declared.rehearsal.View.TheVariants.{Sides, Openness}
 use Rattle.script.specs.Commands.{parsed}
-use Rattle.script.specs.Views.{Viewed, Turned}
+use Rattle.script.specs.Views.{Viewed}
 use Rattle.script.specs.Whole.{Moved, Lawful, Through, begun, onward, Ended, all_played, bad_line, line_at}
 
 delivery_moved : (n : ℕ) (flip : Option ℕ) (p q : Player) (d : Delivery) → DeliveryIs n flip p q d → Moved (world_of p) (world_of q)

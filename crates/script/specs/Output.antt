@@ -3,7 +3,6 @@
 use Rattle.std.specs.Prelude.{ℕ, ◌-◌, cond, List, [], ◌∷◌, ◌++◌, length, codes, decimal, ◌==◌, nat_lt}
 use Rattle.std.specs.List.{flat_map}
 use Rattle.ratchet.specs.declared.types.Mark.{Mark}
-use Rattle.ratchet.specs.declared.types.Refusal.{Refusal}
 use Rattle.ratchet.specs.Numbers.{number}
 use Rattle.ratchet.specs.State.{State}
 use Rattle.runs.specs.declared.types.Who.{Who}

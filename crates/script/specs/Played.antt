@@ -1,17 +1,15 @@
 -- What playing a line does to a rehearsal and to what it prints.
 -- Assumes nothing.
-use Rattle.std.specs.Prelude.{◌≡◌, ℕ, ◌⊎◌, List, [], ◌∷◌, ◌++◌, length, drop, Some, None, Option}
+use Rattle.std.specs.Prelude.{◌≡◌, ℕ, List, ◌++◌, length, drop, Some, None, Option}
 use Rattle.runs.specs.declared.types.Who.{Who}
-use Rattle.runs.specs.World.{World, Event, step, reads}
+use Rattle.runs.specs.World.{step, reads}
 use Rattle.script.specs.declared.commands.Command.{Command}
 use Rattle.script.specs.declared.commands.Command.TheVariants.{Nothing, Send, Deliver, Plan, Read, Show}
-use Rattle.script.specs.declared.play.BadLine.{BadLine}
 use Rattle.script.specs.declared.play.BadLine.TheVariants.{NoCommand, BadText, NoSuchMessage, NoSuchBit, NeverLeft, NoSuchWrite, WritePast, StopSet}
 use Rattle.script.specs.declared.play.Played.{Played}
 use Rattle.script.specs.declared.play.Played.TheVariants as played
 use Rattle.stage.specs.declared.player.Player.{Player}
 use Rattle.stage.specs.declared.types.Sending.{Sending}
-use Rattle.stage.specs.declared.types.Taking.{Taking}
 use Rattle.stage.specs.declared.types.Delivery.{Delivery}
 use Rattle.stage.specs.declared.types.Delivery.TheVariants as delivery
 use Rattle.stage.specs.declared.types.Planning.{Planning}

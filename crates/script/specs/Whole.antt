@@ -1,6 +1,6 @@
 -- A whole script: it is played line by line, and is a run of which the laws of every run hold.
 -- Assumes nothing.
-use Rattle.std.specs.Prelude.{◌≡◌, ℕ, ◌+◌, ◌-◌, ◌<◌, ◌≤◌, min, ◌⊎◌, List, length, ◌≢◌, slice_index, slice_range}
+use Rattle.std.specs.Prelude.{◌≡◌, ℕ, ◌+◌, ◌<◌, ◌≤◌, min, ◌⊎◌, List, length, ◌≢◌, slice_index, slice_range}
 use Rattle.stage.specs.declared.player.Player.{Player}
 use Rattle.script.specs.declared.play.BadLine.{BadLine}
 use Rattle.script.specs.declared.play.Played.{Played}

@@ -1,5 +1,5 @@
 -- A session that begins holds nothing aside.
-use Rattle.std.proofs.Common.{◌≡◌, ℕ, ◌≤◌, List, [], map, length, take, Some, Option, sym, refl, ap, ◌∙◌, arith}
+use Rattle.std.proofs.Common.{◌≡◌, ℕ, List, [], map, length, take, Some, Option, sym, ap, ◌∙◌, arith}
 use Rattle.std.proofs.lemmas.List.{length-take-le}
 use Rattle.seal.specs.declared.keys.MessageKey.{MessageKey}
 use Rattle.ratchet.specs.declared.sides.Side.{Side}

@@ -1,7 +1,6 @@
 -- Chains and the keys along them are the same by either definition.
-use Rattle.std.proofs.Common.{◌≡◌, ℕ, zero, suc, ◌+◌, List, [], ◌∷◌, ◌++◌, map, Option, sym, refl, ap, ◌∙◌, add-one}
+use Rattle.std.proofs.Common.{◌≡◌, ℕ, zero, suc, ◌+◌, List, [], ◌∷◌, map, Option, refl, ap, ◌∙◌, add-one}
 use Rattle.std.proofs.lemmas.List.{map-append}
-use Rattle.seal.specs.declared.keys.MessageKey.{MessageKey}
 use Rattle.chain.specs.Bytes as links
 use Rattle.exchange.specs.Exchanges.{walked, keys_along}
 use Rattle.session.specs.Ours.{ours}

@@ -1,5 +1,5 @@
 -- Which step a message takes; a step that needs no key of the box is what the call comes to; and the same with its text at another place.
-use Rattle.std.proofs.Common.{◌≡◌, ℕ, ◌≤◌, Bool, true, false, cond, List, [], take, drop, Some, None, Option, sym, refl, ap, ◌∙◌, subst}
+use Rattle.std.proofs.Common.{◌≡◌, ℕ, Bool, true, false, List, take, None, Option, sym, refl, ap, ◌∙◌}
 use Rattle.seal.specs.declared.keys.MessageKey.{MessageKey}
 use Rattle.ratchet.specs.Numbers.{number}
 use Rattle.exchange.specs.Outside.{Draw, Outside}
@@ -14,7 +14,7 @@ use Rattle.session.specs.declared.answers.Taken.{Taken}
 use Rattle.session.specs.declared.answers.Taken.TheVariants.{Opened, Refused, NoKey}
 use Rattle.session.specs.Views.{held_of}
 use Rattle.session.specs.Takes.{Opens, Stays, Stepped}
-use Rattle.session.specs.Renews.{Draws, Unrenewed, same, Opening, stayed, drew, Taking, Leaves}
+use Rattle.session.specs.Renews.{same, Opening, stayed, drew, Taking, Leaves}
 
 -- the tests in their order
 module _ (o : Outside) (own : Draw) (h : Held) (p : Parts) (fresh : Option Draw) where

@@ -1,10 +1,7 @@
 -- A key's number and its draw go with each other.
-use Rattle.std.proofs.Common.{◌≡◌, ℕ, ◌+◌, ◌*◌, ◌/◌, ◌%◌, Bool, true, false, cond, eqb, refl, ap, ◌∙◌, inl, inr, arith, eqb-true}
-use Rattle.std.proofs.lemmas.Bool.{cases_Bool}
+use Rattle.std.proofs.Common.{◌≡◌, ℕ, ◌+◌, ◌*◌, ◌/◌, ◌%◌, Bool, true, false, cond, eqb, refl, arith, eqb-true}
 use borrow.Author.Tests.{eqb-false}
-use Rattle.runs.specs.declared.types.Who.{Who}
 use Rattle.runs.specs.declared.types.Who.TheVariants.{First, Second}
-use Rattle.exchange.specs.Outside.{Draw}
 use Rattle.session.specs.Ours.{number_of, draw_of}
 
 by_test : (b : Bool) (n k : ℕ) → (b ≡ true → 2 * n ≡ k) → (b ≡ false → 2 * n + 1 ≡ k) → number_of (record { who = cond b First Second; nth = n }) ≡ k

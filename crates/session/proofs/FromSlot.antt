@@ -1,5 +1,5 @@
 -- A message whose key was put aside, by what the bookkeeping answers and whether its text opens.
-use Rattle.std.proofs.Common.{◌≡◌, ℕ, ◌-◌, ◌<◌, ◌≤◌, Bool, true, false, cond, List, [], map, length, get_or, take, drop, is_some, Some, None, Option, sym, refl, ap, ◌∙◌, arith}
+use Rattle.std.proofs.Common.{◌≡◌, ℕ, ◌-◌, ◌<◌, true, false, List, [], map, length, get_or, take, drop, is_some, Some, None, Option, sym, ap, ◌∙◌, arith}
 use Rattle.std.specs.List.{remove}
 use Rattle.std.proofs.lemmas.List.{length-take-le, length-map}
 use Rattle.std.proofs.lemmas.Bool.{cond-true, cond-false}
@@ -12,11 +12,9 @@ use Rattle.exchange.specs.Wire.{Parts}
 use Rattle.exchange.specs.Held.{Held}
 use Rattle.exchange.specs.Exchanges as exchange
 use Rattle.session.specs.declared.sessions.Session.{Session}
-use Rattle.session.specs.Ours.{ours}
 use Rattle.session.specs.Views.{held_of, key_in}
 use Rattle.session.specs.Takes.{parts_of}
 use Rattle.session.specs.Found.{Found}
-use Rattle.session.proofs.InTurn.{only_kept}
 use Rattle.session.proofs.Aside.{map-removed, length_removed}
 
 module _ (o : Outside) (h : Held) (p : Parts) where

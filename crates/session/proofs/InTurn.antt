@@ -1,7 +1,7 @@
 -- A message in turn, by what the bookkeeping answers and whether its text opens.
-use Rattle.std.proofs.Common.{◌≡◌, ℕ, ◌+◌, ◌-◌, ◌≤◌, Bool, true, false, cond, ◌&&◌, List, ◌++◌, map, length, take, drop, is_some, Some, None, Option, sym, refl, ap, ◌∙◌, arith}
+use Rattle.std.proofs.Common.{◌≡◌, ℕ, ◌+◌, ◌-◌, ◌≤◌, Bool, true, false, ◌&&◌, List, ◌++◌, map, length, take, drop, is_some, Some, None, Option, sym, ap, ◌∙◌, arith}
 use borrow.Rule.Slice.PartMut.{put_mid}
-use Rattle.std.proofs.lemmas.Bool.{cond-true, cond-false, le-leb, and_from}
+use Rattle.std.proofs.lemmas.Bool.{cond-true, le-leb, and_from}
 use Rattle.std.proofs.lemmas.List.{map-append}
 use Rattle.seal.specs.declared.keys.MessageKey.{MessageKey}
 use Rattle.chain.specs.Bytes as links
@@ -14,10 +14,10 @@ use Rattle.exchange.specs.Held.{Held}
 use Rattle.exchange.specs.Exchanges as exchange
 use Rattle.session.specs.declared.sessions.Session.{Session}
 use Rattle.session.specs.Ours.{ours}
-use Rattle.session.specs.Views.{held_of, key_in, Wiped}
+use Rattle.session.specs.Views.{held_of, key_in}
 use Rattle.session.specs.Takes.{parts_of}
-use Rattle.session.proofs.Chains.{chain_same, keys_same, chain_next}
-use Rattle.session.proofs.Slots.{length-places, grown_count, grown_front, grown_rest, length_part}
+use Rattle.session.proofs.Chains.{chain_same, keys_same}
+use Rattle.session.proofs.Slots.{length-places, grown_count, grown_front, length_part}
 
 -- a step that is kept has nothing against it
 pub only_kept : (w o f : Bool) (t u : State) → book.kept t ≡ book.checked w o f u → t ≡ u

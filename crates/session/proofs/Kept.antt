@@ -1,5 +1,5 @@
 -- Our functions of the outside keep their laws: lengths of the digests, the stream undoing itself, and the boxes' own law.
-use Rattle.std.proofs.Common.{◌≡◌, ℕ, ◌+◌, ◌*◌, List, [], replicate, Option, sym, refl, ap, ◌∙◌, arith}
+use Rattle.std.proofs.Common.{◌≡◌, ℕ, ◌+◌, ◌*◌, [], replicate, ap, ◌∙◌, arith}
 use Rattle.digest.proofs.Lengths.{length-hmac, length-hkdf}
 use Rattle.seal.proofs.Streams.{stream_twice}
 use Rattle.session.proofs.Written.{length-covered, length-tag}

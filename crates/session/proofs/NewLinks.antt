@@ -1,5 +1,5 @@
 -- A message of a new link, by whether its text opens, what the bookkeeping answers, and the key that the box gives.
-use Rattle.std.proofs.Common.{◌≡◌, ℕ, ◌+◌, ◌-◌, ◌≤◌, Bool, true, false, cond, ◌&&◌, List, ◌++◌, map, length, take, drop, replicate, is_some, Some, None, Option, sym, refl, ap, ◌∙◌, append_assoc, arith}
+use Rattle.std.proofs.Common.{◌≡◌, ℕ, ◌+◌, ◌-◌, ◌≤◌, true, false, ◌&&◌, List, ◌++◌, map, length, take, drop, replicate, is_some, Some, None, Option, sym, refl, ap, ◌∙◌, append_assoc, arith}
 use Rattle.std.proofs.lemmas.List.{drop-drop, drop-replicate, length-append}
 use Rattle.std.proofs.lemmas.Bool.{cond-true, cond-false, le-leb, and_from}
 use Rattle.seal.specs.declared.keys.MessageKey.{MessageKey}
@@ -17,10 +17,10 @@ use Rattle.session.specs.declared.begun.Begun.{Begun}
 use Rattle.session.specs.declared.answers.Taken.{Taken}
 use Rattle.session.specs.declared.answers.Taken.TheVariants.{Opened, Refused, NoKey}
 use Rattle.session.specs.Ours.{ours, draw_of}
-use Rattle.session.specs.Views.{held_of, key_in, Wiped}
+use Rattle.session.specs.Views.{held_of, key_in}
 use Rattle.session.specs.Takes.{parts_of}
 use Rattle.session.specs.Takes.{Opens}
-use Rattle.session.specs.Renews.{Begins, Turns, Turning, Opening, drew, Taking, Leaves}
+use Rattle.session.specs.Renews.{Begins, Turns, Turning, drew, Taking, Leaves}
 use Rattle.session.proofs.Chains.{chain_same, chain_next}
 use Rattle.session.proofs.Draws.{number-draw}
 use Rattle.session.proofs.InTurn.{only_kept}

@@ -1,16 +1,14 @@
 -- The step of sending, on what a session holds.
-use Rattle.std.proofs.Common.{◌≡◌, ℕ, ◌+◌, ◌≤◌, Bool, true, false, cond, eqb, ltb, List, [], ◌∷◌, ◌++◌, map, length, take, drop, Option, sym, refl, ap, ◌∙◌, arith}
+use Rattle.std.proofs.Common.{◌≡◌, ℕ, ◌+◌, ◌≤◌, Bool, true, false, cond, eqb, ltb, List, ◌++◌, map, length, take, Option, sym, ap, arith}
 use Rattle.std.proofs.lemmas.List.{length-take-le}
 use Rattle.seal.specs.declared.keys.MessageKey.{MessageKey}
 use Rattle.seal.specs.Sealing.{sealed}
 use Rattle.ratchet.specs.declared.types.Mark.{Mark}
-use Rattle.ratchet.specs.declared.types.Message.{Message}
-use Rattle.ratchet.specs.declared.sides.Side.{Side}
 use Rattle.ratchet.specs.State.{State, state_of}
 use Rattle.ratchet.specs.Steps as book
 use Rattle.wire.specs.declared.header.Header.{Header}
 use Rattle.wire.specs.Layout as wire
-use Rattle.exchange.specs.Outside.{Outside, seal}
+use Rattle.exchange.specs.Outside.{seal}
 use Rattle.exchange.specs.Wire.{header_bytes}
 use Rattle.exchange.specs.Held.{Held}
 use Rattle.exchange.specs.Exchanges.{send_text, send_as, sent_on, sent, message_bytes}

@@ -1,5 +1,5 @@
 -- The text of a message under a key: opened exactly if its tag belongs to it.
-use Rattle.std.proofs.Common.{◌≡◌, ℕ, ◌+◌, ◌-◌, ◌≤◌, Bool, true, false, cond, List, [], ◌∷◌, ◌++◌, length, take, drop, Some, None, Option, sym, refl, ap, ◌∙◌, subst, inl, inr, arith}
+use Rattle.std.proofs.Common.{◌≡◌, ℕ, ◌-◌, ◌≤◌, true, List, length, take, drop, Some, None, sym, ap, ◌∙◌, inl, inr, arith}
 use Rattle.std.proofs.lemmas.List.{take_at, length-take-le}
 use Rattle.std.proofs.lemmas.Bool.{cases_Bool, cond-true, cond-false}
 use Rattle.seal.specs.Answers.{Opened, OpenRefusal}
@@ -8,7 +8,7 @@ use Rattle.seal.specs.declared.sealing.OpenError.{OpenError}
 use Rattle.seal.specs.declared.sealing.OpenError.TheVariants.{TooLong, NoRoom, Forged}
 use Rattle.exchange.specs.Outside.{unseal, same_bytes}
 use Rattle.exchange.proofs.Tags.{same_bytes_lem, bytes_same}
-use Rattle.session.specs.Ours.{AnyBox, ours}
+use Rattle.session.specs.Ours.{AnyBox}
 use Rattle.session.proofs.Written.{length-covered}
 
 module _ (key header body before after : List ℕ) where

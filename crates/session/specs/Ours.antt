@@ -4,7 +4,6 @@ use Rattle.std.specs.Prelude.{ℕ, ◌+◌, ◌*◌, ◌/◌, ◌%◌, cond, Lis
 use Rattle.digest.specs.Hmac.{hmac_sha_256}
 use Rattle.seal.specs.Sealing.{covered, tag_key}
 use Rattle.chain.specs.Bytes as links
-use Rattle.runs.specs.declared.types.Who.{Who}
 use Rattle.runs.specs.declared.types.Who.TheVariants.{First, Second}
 use Rattle.exchange.specs.Outside.{Draw, Outside}
 

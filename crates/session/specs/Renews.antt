@@ -13,7 +13,7 @@ use Rattle.session.specs.declared.answers.Taken.{Taken}
 use Rattle.session.specs.declared.answers.Taken.TheVariants.{Opened, Refused, NoKey}
 use Rattle.session.specs.declared.begun.Begun.{Begun}
 use Rattle.session.specs.Ours.{AnyBox, draw_of}
-use Rattle.session.specs.Views.{held_of, key_in}
+use Rattle.session.specs.Views.{key_in}
 use Rattle.session.specs.Takes.{Opens, Stays}
 
 -- a link begun with the key in force: its parts, and the text of the message at its place

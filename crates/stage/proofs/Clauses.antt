@@ -1,5 +1,5 @@
 -- The definitions that searches go by, clause by clause.
-use Rattle.std.proofs.Common.{◌≡◌, ℕ, Bool, true, false, cond, ◌||◌, eqb, List, [], ◌∷◌, refl}
+use Rattle.std.proofs.Common.{◌≡◌, ℕ, Bool, false, cond, ◌||◌, eqb, List, [], ◌∷◌, refl}
 use Rattle.ratchet.specs.declared.types.Message.{Message}
 use Rattle.ratchet.specs.Same.{same_message}
 use Rattle.runs.specs.World.{among}

@@ -1,6 +1,6 @@
 -- A device of a rehearsal, seen as a party of a world, and what its steps come to.
 -- Assumes nothing.
-use Rattle.std.specs.Prelude.{◌≡◌, ℕ, Bool, List, vec_items}
+use Rattle.std.specs.Prelude.{◌≡◌, ℕ, Bool, vec_items}
 use Rattle.ratchet.specs.declared.types.Message.{Message}
 use Rattle.ratchet.specs.Numbers.{number}
 use Rattle.ratchet.specs.State.{state_of}

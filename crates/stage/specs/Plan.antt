@@ -1,6 +1,6 @@
 -- Planned stops: which of them is due at a write, and after how many effects a step then stops.
 -- Assumes nothing.
-use Rattle.std.specs.Prelude.{◌≡◌, ℕ, ◌+◌, ◌-◌, ◌<◌, ◌≤◌, Bool, true, false, cond, List, [], ◌∷◌, ◌++◌, length, ◌==◌, ◌≢◌}
+use Rattle.std.specs.Prelude.{◌≡◌, ℕ, ◌+◌, ◌-◌, ◌<◌, ◌≤◌, false, cond, List, [], ◌∷◌, ◌++◌, length, ◌==◌, ◌≢◌}
 use Rattle.runs.specs.World.{Effect, Party, performed}
 use Rattle.stage.specs.declared.types.Stop.{Stop}
 use Rattle.stage.specs.declared.types.Planning.{Planning}

@@ -1,27 +1,23 @@
 -- A rehearsal seen as a world, and what its steps do to it.
 -- Assumes nothing.
-use Rattle.std.specs.Prelude.{◌≡◌, ℕ, ◌+◌, ◌-◌, ◌*◌, ◌<◌, ◌≤◌, Bool, true, false, cond, ◌||◌, List, [], ◌∷◌, ◌++◌, map, length, Some, None, vec_items, Option, ◌==◌, nat_le, nat_lt, slice_index_or}
+use Rattle.std.specs.Prelude.{◌≡◌, ℕ, ◌+◌, ◌-◌, ◌*◌, Bool, true, false, cond, List, [], ◌∷◌, ◌++◌, map, length, Some, None, vec_items, Option, ◌==◌, nat_le, nat_lt, slice_index_or}
 use Rattle.ratchet.specs.Same.{no_message}
-use Rattle.ratchet.specs.declared.sides.Side.{Side}
 use Rattle.ratchet.specs.declared.types.Message.{Message}
-use Rattle.ratchet.specs.State.{State, state_of}
+use Rattle.ratchet.specs.State.{state_of}
 use Rattle.ratchet.specs.Steps.{message}
 use Rattle.runs.specs.declared.types.Who.{Who}
 use Rattle.runs.specs.declared.types.Who.TheVariants.{First, Second}
-use Rattle.runs.specs.World.{World, Event, step, sends, takes, party, other, among, send_answer, take_answer}
+use Rattle.runs.specs.World.{World, step, sends, takes, party, other, among, send_answer, take_answer}
 use Rattle.stage.specs.declared.types.Due.{Due}
 use Rattle.stage.specs.declared.types.Sending.{Sending}
 use Rattle.stage.specs.declared.types.Sending.TheVariants as sending
 use Rattle.stage.specs.declared.types.Delivery.{Delivery}
 use Rattle.stage.specs.declared.types.Delivery.TheVariants as delivery
-use Rattle.stage.specs.declared.types.Planning.{Planning}
-use Rattle.stage.specs.declared.types.Planning.TheVariants as planning
-use Rattle.stage.specs.declared.types.Stop.{Stop}
 use Rattle.stage.specs.declared.types.Taking.{Taking}
 use Rattle.stage.specs.declared.device.Device.{Device}
 use Rattle.stage.specs.declared.player.Letter.{Letter}
 use Rattle.stage.specs.declared.player.Player.{Player}
-use Rattle.stage.specs.Plan.{Plan, Planned, due_next, up_to}
+use Rattle.stage.specs.Plan.{due_next, up_to}
 use Rattle.stage.specs.Devices.{party_of, plan_of, plan_then, outcome, SendingIs, TakingIs}
 
 abbrev pub world_of : Player → World

@@ -1,4 +1,4 @@
-use Rattle.std.proofs.Common.{ℕ, List, ◌++◌, get_or, vec_items, sym, ap, ◌∙◌}
+use Rattle.std.proofs.Common.{ℕ, List, ◌++◌, get_or, vec_items, ap, ◌∙◌}
 use Rattle.std.proofs.lemmas.List.{take_all}
 use Rattle.notation.specs.Escapes.{escaped, escaped_byte}
 use Rattle.notation.proofs.Texts.{escaped-more}

@@ -1,5 +1,5 @@
 -- All before the digest, and the digest of it.
-use Rattle.std.proofs.Common.{ℕ, ◌+◌, ◌-◌, List, ◌++◌, ap, ◌∙◌, arith}
+use Rattle.std.proofs.Common.{ℕ, List, ◌++◌, ap, ◌∙◌, arith}
 use Rattle.session.specs.Views.{held_of}
 use Rattle.page.specs.Layout.{body_bytes, page_bytes}
 use Rattle.page.proofs.Puts.{front-size, page_front, page_rest, digest-of}

@@ -1,4 +1,4 @@
-use Rattle.std.proofs.Common.{Bool, sym, refl, ◌∙◌}
+use Rattle.std.proofs.Common.{sym, ◌∙◌}
 use Rattle.ratchet.specs.declared.types.Mark.{Mark}
 use Rattle.ratchet.specs.Blank.{blank}
 use Rattle.ratchet.specs.Same.{same_mark}

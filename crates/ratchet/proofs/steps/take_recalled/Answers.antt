@@ -1,6 +1,4 @@
-use Rattle.std.proofs.Common.{◌≡◌, ℕ, ◌+◌, ◌-◌, ◌<◌, ◌≤◌, List, ◌++◌, length, take, drop, sym, ap, ◌∙◌, arith, rules}
-use Rattle.std.proofs.lemmas.List.{length-take-le}
-use Rattle.ratchet.specs.declared.types.Mark.{Mark}
+use Rattle.std.proofs.Common.{◌≡◌, ◌-◌, length, take, drop, ap, ◌∙◌, arith, rules}
 use Rattle.ratchet.specs.Blank.{blank}
 use Rattle.ratchet.specs.State.{state_of}
 use Rattle.ratchet.proofs.Slots.{part_front, removed_from, shrunk_front, shrunk_rest}

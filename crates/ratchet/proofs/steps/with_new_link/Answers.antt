@@ -1,8 +1,8 @@
-use Rattle.std.proofs.Common.{◌≡◌, ℕ, ◌+◌, ◌-◌, ◌<◌, ◌≤◌, List, ◌++◌, length, take, drop, sym, ap, ◌∙◌, arith, rules}
+use Rattle.std.proofs.Common.{◌≡◌, ◌+◌, ◌-◌, List, length, arith, rules}
 use Rattle.std.proofs.lemmas.Bool.Decides.{nat_tests}
 use lib.Seq.{paste}
 use Rattle.ratchet.specs.declared.types.Mark.{Mark}
-use Rattle.ratchet.specs.State.{state_of, places}
+use Rattle.ratchet.specs.State.{places}
 use Rattle.ratchet.proofs.Slots.{length-places, put_both, put_none}
 use Rattle.ratchet.proofs.steps.with_new_link.Goals as goal
 use Rattle.ratchet.proofs.steps.with_new_link.Goals.{then-left-gt0, else-left-gt0}

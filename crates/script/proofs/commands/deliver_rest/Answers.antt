@@ -1,4 +1,3 @@
-use Rattle.std.proofs.Common.{sym, ◌∙◌}
 use Rattle.script.proofs.Joins.{delivered-rest}
 use Rattle.script.proofs.commands.deliver_rest.Goals as goal
 

@@ -1,4 +1,4 @@
-use Rattle.std.proofs.Common.{◌≡◌, ℕ, ◌-◌, List, [], ◌∷◌, ◌++◌, take, vec_items, codes, subst, arith}
+use Rattle.std.proofs.Common.{◌≡◌, ℕ, ◌-◌, [], ◌∷◌, ◌++◌, take, vec_items, codes, subst, arith}
 use Rattle.ratchet.specs.State.{state_of}
 use Rattle.script.specs.Output.{keys_text, links_text, labelled, marks_text}
 use Rattle.script.proofs.Joins.{append_two}

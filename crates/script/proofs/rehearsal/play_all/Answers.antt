@@ -1,7 +1,7 @@
 use Rattle.std.proofs.Common.{ℕ, ◌+◌, vec_items, sym, subst}
 use Rattle.script.specs.declared.play.Played.{Played}
 use Rattle.script.specs.Views.{Turned}
-use Rattle.script.specs.Whole.{Through, begun, onward, EndsLine, line_at, Ended, all_played, bad_line}
+use Rattle.script.specs.Whole.{Through, begun, onward, EndsLine, line_at, all_played, bad_line}
 use Rattle.script.proofs.Runs.{ended-lawful}
 use Rattle.script.proofs.rehearsal.play_all.Goals as goal
 

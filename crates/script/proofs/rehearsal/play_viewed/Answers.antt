@@ -1,4 +1,4 @@
-use Rattle.std.proofs.Common.{◌≡◌, ℕ, List, vec_items, sym, refl, subst}
+use Rattle.std.proofs.Common.{ℕ, List, vec_items, sym, refl, subst}
 use Rattle.script.specs.declared.rehearsal.View.{View}
 use Rattle.script.specs.Commands.{parsed}
 use Rattle.script.specs.Played.{LinePlayed}

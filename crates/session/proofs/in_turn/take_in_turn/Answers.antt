@@ -1,8 +1,7 @@
 -- By whether the text opens, and then by what the bookkeeping answers.
-use Rattle.std.proofs.Common.{◌≡◌, ◌+◌, ◌-◌, ◌≤◌, false, length, take, Some, None, sym, refl, ap, ◌∙◌, arith, rules}
+use Rattle.std.proofs.Common.{◌≡◌, ◌+◌, ◌-◌, ◌≤◌, false, length, take, None, refl, ap, ◌∙◌, arith, rules}
 use Rattle.std.proofs.lemmas.List.{length-take-le}
 use Rattle.std.proofs.lemmas.Bool.{cond-true}
-use Rattle.ratchet.specs.State.{state_of}
 use Rattle.exchange.specs.Held.{Held, blank}
 use Rattle.exchange.specs.Exchanges as exchange
 use Rattle.session.specs.declared.sessions.Session.{Session}

@@ -1,7 +1,7 @@
 -- The joint secret is that of the key in force.
-use Rattle.std.proofs.Common.{◌≡◌, ℕ, Some, None, Option, sym, refl, ap, ◌∙◌}
+use Rattle.std.proofs.Common.{ℕ, None, Option, sym, refl, ap, ◌∙◌}
 use Rattle.keybox.specs.Box.{given}
-use Rattle.session.proofs.NewLinks.{text_none, text_new_lem}
+use Rattle.session.proofs.NewLinks.{text_new_lem}
 use Rattle.session.proofs.new_link.open_new.Goals as goal
 
 pub returns-in-None : goal.returns-in-None

@@ -1,12 +1,11 @@
 -- By whether the text opens, then by what the bookkeeping answers, and then by whether the box gives a key.
-use Rattle.std.proofs.Common.{◌≡◌, ◌+◌, ◌≤◌, length, take, sym, refl, ap, ◌∙◌, arith, rules}
+use Rattle.std.proofs.Common.{◌≡◌, length, refl, ◌∙◌, arith, rules}
 use Rattle.std.proofs.lemmas.List.{length-take-le}
 use Rattle.ratchet.specs.State.{state_of}
-use Rattle.ratchet.specs.Steps as book
 use Rattle.session.specs.Ours.{ours, draw_of}
 use Rattle.session.specs.Views.{held_of}
 use Rattle.session.specs.Takes.{parts_of}
-use Rattle.session.proofs.NewLinks.{opened_new, shut_new, text_begun, book_new, turned, turned-leaves}
+use Rattle.session.proofs.NewLinks.{opened_new, shut_new, book_new, turned, turned-leaves}
 use Rattle.session.proofs.NewLinks.{text_new_lem}
 use Rattle.session.proofs.new_link.take_new.Goals as goal
 

@@ -1,5 +1,5 @@
 -- The key drawn comes into force, and the keys of the old link and then of the new one are put aside.
-use Rattle.std.proofs.Common.{◌≡◌, ℕ, Option, sym, refl, ap, ◌∙◌, arith}
+use Rattle.std.proofs.Common.{ℕ, Option, refl, ap, ◌∙◌, arith}
 use Rattle.std.specs.Option.{option_or}
 use Rattle.session.proofs.NewLinks.{both_keys, both_rest}
 use Rattle.session.proofs.new_link.turn.Goals as goal

@@ -1,5 +1,5 @@
 -- None of those passed is the one.
-use Rattle.std.proofs.Common.{sym, refl, ◌∙◌}
+use Rattle.std.proofs.Common.{sym, ◌∙◌}
 use Rattle.ratchet.specs.declared.types.Mark.{Mark}
 use Rattle.ratchet.specs.Blank.{blank}
 use Rattle.ratchet.specs.Same.{same_mark}

@@ -1,5 +1,5 @@
 -- By whether the text opens, and then by what the bookkeeping answers.
-use Rattle.std.proofs.Common.{◌≡◌, ℕ, ◌+◌, ◌-◌, ◌≤◌, true, false, List, ◌++◌, length, take, drop, replicate, Some, None, sym, refl, ap, ◌∙◌, arith, rules}
+use Rattle.std.proofs.Common.{◌≡◌, ℕ, ◌-◌, true, false, List, length, take, drop, replicate, None, refl, ap, ◌∙◌, arith, rules}
 use borrow.Rule.Slice.PartMut.{put_mid}
 use Rattle.seal.specs.declared.keys.MessageKey.{MessageKey}
 use Rattle.ratchet.specs.State.{state_of}

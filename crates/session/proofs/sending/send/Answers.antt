@@ -1,5 +1,5 @@
 -- The bytes that were written are the message's, and the session after it is the one that has sent it.
-use Rattle.std.proofs.Common.{◌≡◌, ℕ, List, length, sym, refl, ap, ◌∙◌, arith, rules}
+use Rattle.std.proofs.Common.{◌≡◌, length, refl, ap, ◌∙◌, rules}
 use Rattle.ratchet.specs.State.{State, state_of}
 use Rattle.session.specs.declared.sessions.Session.{Session}
 use Rattle.session.specs.Views.{held_of}

@@ -1,5 +1,5 @@
 -- By how the bytes are read, and then by what the step comes to.
-use Rattle.std.proofs.Common.{◌≡◌, ℕ, Option, sym, refl, ap, ◌∙◌, rules}
+use Rattle.std.proofs.Common.{ℕ, Option, sym, refl, ap, ◌∙◌, rules}
 use Rattle.session.specs.Ours.{ours, draw_of}
 use Rattle.session.specs.Views.{held_of}
 use Rattle.exchange.specs.Wire.{Parts}

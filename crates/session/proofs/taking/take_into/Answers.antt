@@ -1,5 +1,5 @@
 -- The text moves to the output, and where it was opened is blank.
-use Rattle.std.proofs.Common.{◌≡◌, ℕ, length, replicate, sym, refl, ap, ◌∙◌, rules}
+use Rattle.std.proofs.Common.{rules}
 use Rattle.session.proofs.Dispatch.{handed}
 use Rattle.session.proofs.taking.take_into.Goals as goal
 

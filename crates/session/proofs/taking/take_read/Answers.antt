@@ -1,11 +1,10 @@
 -- By the tests in their order.
-use Rattle.std.proofs.Common.{◌≡◌, ℕ, ◌-◌, Bool, true, false, take, sym, refl, ap, ◌∙◌, arith, eq-eqb}
+use Rattle.std.proofs.Common.{◌≡◌, ℕ, ◌-◌, true, false, take, sym, ap, ◌∙◌, arith, eq-eqb}
 use Rattle.ratchet.specs.State.{state_of, has}
 use Rattle.ratchet.specs.Steps as book
 use Rattle.session.specs.Ours.{ours, draw_of}
 use Rattle.session.specs.Views.{held_of}
 use Rattle.session.specs.Takes.{parts_of}
-use Rattle.exchange.specs.Exchanges as exchange
 use Rattle.session.proofs.Dispatch.{by_turn, by_slot, by_link, stepped, step_leaves, taken_as}
 use Rattle.session.proofs.taking.take_read.Goals as goal
 

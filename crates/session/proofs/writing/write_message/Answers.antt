@@ -1,5 +1,5 @@
 -- The header first, and the sealed text behind it.
-use Rattle.std.proofs.Common.{◌≡◌, ℕ, ◌+◌, List, ◌++◌, length, sym, refl, ap, ◌∙◌, subst, arith}
+use Rattle.std.proofs.Common.{◌≡◌, ℕ, List, ◌++◌, length, refl, ap, ◌∙◌, arith}
 use Rattle.seal.specs.Sealing.{sealed}
 use Rattle.session.proofs.Written.{message_front, message_rest}
 use Rattle.session.proofs.writing.write_message.Goals as goal

@@ -1,4 +1,4 @@
-use Rattle.std.proofs.Common.{◌≡◌, true, false, eqb, sym, ◌∙◌, arith}
+use Rattle.std.proofs.Common.{eqb, ◌∙◌}
 use Rattle.std.proofs.lemmas.Bool.{eq-eqb, ne_eqb}
 use Rattle.ratchet.proofs.Finds as finds
 use Rattle.stage.specs.declared.types.Stop.{Stop}

@@ -1,5 +1,5 @@
 -- The six parts make the header, and it is read back.
-use Rattle.std.proofs.Common.{◌≡◌, ℕ, List, ◌++◌, length, ap, ◌∙◌, arith}
+use Rattle.std.proofs.Common.{◌≡◌, ℕ, List, ◌++◌, ap, ◌∙◌, arith}
 use Rattle.wire.specs.Layout.{header_bytes, reading}
 use Rattle.wire.specs.Laws.{Writable}
 use Rattle.wire.proofs.Numbers.{four-fits, two_fits}

@@ -1,7 +1,7 @@
 -- What is promised of every exchange, byte for byte.
 -- Assumes that whatever opens was sent by the other side, and the laws of the outside: both are conditions below.
 use Rattle.std.specs.Prelude.{◌≡◌, ℕ, suc, ◌<◌, Bool, true, false, List, [], ◌∷◌, ◌++◌, map, length, Some, None, Option, slice_index}
-use Rattle.std.specs.List.{ContainsAt as Has, AllByRecursion as All}
+use Rattle.std.specs.List.{ContainsAt as Has, AllByRecursion}
 use Rattle.ratchet.specs.declared.types.Message.{Message}
 use Rattle.ratchet.specs.State.{State}
 use Rattle.ratchet.specs.Steps.{Answer, kept, refused, take}
@@ -51,7 +51,7 @@ pub record Sized (h : Held) : Type 0 where
   pub sending : length h.sending ≡ 32
   pub taking : length h.taking ≡ 32
   pub half : length h.half ≡ 32
-  pub keys : All (λ k. length k ≡ 32) h.keys
+  pub keys : AllByRecursion (λ k. length k ≡ 32) h.keys
 
 -- a side read out, as the model says that it was
 abbrev pub read_as : Outside → Ground → State → Reading

@@ -1,7 +1,7 @@
 -- A message as bytes: 82, its three numbers, the public half of its sender's last key, the length of its text, the covered text and the tag.
 -- Assumes nothing.
 use Rattle.std.specs.Prelude.{◌≡◌, ℕ, ◌+◌, ◌-◌, ◌*◌, ◌/◌, ◌%◌, ◌^◌, ◌<◌, ◌≤◌, Bool, cond, ◌&&◌, List, [], ◌∷◌, ◌++◌, length, take, drop, Some, None, Option, ◌==◌, nat_le, slice_index}
-use Rattle.std.specs.List.{AllByRecursion as All}
+use Rattle.std.specs.List.{AllByRecursion}
 use Rattle.ratchet.specs.declared.types.Message.{Message}
 
 -- ### Writing
@@ -75,4 +75,4 @@ pub record Made (bs : List ℕ) (p : Parts) : Type 0 where
 
 pub record WireLaws : Type 0 where
   pub round : (m : Message) (half body : List ℕ) → Writable m half body → Round m half body
-  pub made : (bs : List ℕ) (p : Parts) → All (λ b. b < 256) bs → read_message bs ≡ Some p → Made bs p
+  pub made : (bs : List ℕ) (p : Parts) → AllByRecursion (λ b. b < 256) bs → read_message bs ≡ Some p → Made bs p

@@ -1,13 +1,13 @@
 -- What is written is read back.
 -- Assumes nothing.
 use Rattle.std.specs.Prelude.{◌≡◌, ℕ, ◌^◌, ◌<◌, List, Some, decimal}
-use Rattle.std.specs.List.{AllByRecursion as All}
+use Rattle.std.specs.List.{AllByRecursion}
 use Rattle.notation.specs.Escapes.{escaped, unescaped}
 use Rattle.notation.specs.Decimals.{number_of}
 
 -- every text of bytes, as output writes it, is read back as that text
 abbrev pub TextsReadBack : Type 0
-TextsReadBack = (text : List ℕ) → All (λ b. b < 256) text → unescaped (escaped text) ≡ Some text
+TextsReadBack = (text : List ℕ) → AllByRecursion (λ b. b < 256) text → unescaped (escaped text) ≡ Some text
 
 -- and so is every number of 32 bits
 abbrev pub NumbersReadBack : Type 0

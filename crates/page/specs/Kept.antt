@@ -1,7 +1,7 @@
 -- Every step leads from a valid side to a valid side, so every page that is written is read again.
 -- Assumes the laws of the outside, and that what comes is bytes: both are conditions below.
 use Rattle.std.specs.Prelude.{◌≡◌, ℕ, ◌<◌, Bool, List, length, Some, Option}
-use Rattle.std.specs.List.{AllByRecursion as All}
+use Rattle.std.specs.List.{AllByRecursion}
 use Rattle.runs.specs.declared.types.Who.{Who}
 use Rattle.runs.specs.declared.types.Who.TheVariants.{First, Second}
 use Rattle.exchange.specs.Outside.{Draw, Outside, Lawful}
@@ -14,7 +14,7 @@ use Rattle.page.specs.Reading.{Reads}
 
 -- each fits a byte
 abbrev pub IsBytes : List ℕ → Type 0
-IsBytes bs = All (λ b. b < 256) bs
+IsBytes bs = AllByRecursion (λ b. b < 256) bs
 
 -- what comes to a side is bytes
 abbrev pub ComesAsBytes : Event → Type 0
@@ -37,9 +37,9 @@ module _ (o : Outside) where
     pub taking : (who : Who) (own : Draw) (fresh : Option Draw) (h after : Held) (bytes text : List ℕ) (drew : Bool) → IsBytes bytes → Valid who h →
         take_bytes o own fresh h bytes ≡ opened after text drew → Valid who after
     -- after every list of sends, of any bytes that come, of readings and stops
-    pub always : (secret : List ℕ) → length secret ≡ 32 → (es : List Event) → All ComesAsBytes es → (who : Who) → Valid who (held_after secret es who)
+    pub always : (secret : List ℕ) → length secret ≡ 32 → (es : List Event) → AllByRecursion ComesAsBytes es → (who : Who) → Valid who (held_after secret es who)
     -- so the page of either side is read as that very side
-    pub comes_up : (secret : List ℕ) → length secret ≡ 32 → (es : List Event) → All ComesAsBytes es → (who : Who) (answer : Option Held) →
+    pub comes_up : (secret : List ℕ) → length secret ≡ 32 → (es : List Event) → AllByRecursion ComesAsBytes es → (who : Who) (answer : Option Held) →
         Reads who (page_bytes (held_after secret es who)) answer → answer ≡ Some (held_after secret es who)
 
 -- with any functions of the outside that keep their laws

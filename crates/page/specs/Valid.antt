@@ -1,7 +1,7 @@
 -- Which sides there are: what the page of the first or of the second side may say.
 -- Assumes nothing.
 use Rattle.std.specs.Prelude.{◌≡◌, ℕ, ◌+◌, ◌%◌, ◌^◌, ◌<◌, ◌≤◌, ◌⊎◌, List, [], ◌∷◌, length}
-use Rattle.std.specs.List.{AllByRecursion as All}
+use Rattle.std.specs.List.{AllByRecursion}
 use Rattle.ratchet.specs.declared.types.Mark.{Mark}
 use Rattle.ratchet.specs.State.{State}
 use Rattle.runs.specs.declared.types.Who.{Who}
@@ -18,7 +18,7 @@ Below a b = (a.link < b.link) ⊎ ((a.link ≡ b.link) × (a.place < b.place))
 -- each below all that come behind it
 abbrev pub Rising : List Mark → Type 0
 Rising [] = Unit {0}
-Rising (m ∷ ms) = All (Below m) ms × Rising ms
+Rising (m ∷ ms) = AllByRecursion (Below m) ms × Rising ms
 
 -- of a link that the side takes on or took on, and on the one that it takes on of a place before the next
 pub record Aside (drawn taken : ℕ) (m : Mark) : Type 0 where
@@ -61,7 +61,7 @@ pub record Sound (who : Who) (s : State) (sending taking : List ℕ) : Type 0 wh
   pub parity : s.drawn % 2 ≡ parity_of who
   pub begun : Begun s sending taking
   pub rising : Rising s.skipped
-  pub aside : All (Aside s.drawn s.taken) s.skipped
+  pub aside : AllByRecursion (Aside s.drawn s.taken) s.skipped
 
 -- ### A side
 
@@ -71,7 +71,7 @@ pub record Counted (s : State) : Type 0 where
   pub sent : s.sent < 2 ^ 32
   pub taken : s.taken < 2 ^ 32
   pub before : s.before < 2 ^ 32
-  pub places : All (λ m. m.place < 2 ^ 32) s.skipped
+  pub places : AllByRecursion (λ m. m.place < 2 ^ 32) s.skipped
 
 -- a side that there can be: all that its page says can be written, keys are in step with their marks, at most 512, and all goes together
 pub record Valid (who : Who) (h : Held) : Type 0 where

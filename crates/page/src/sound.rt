@@ -1,6 +1,6 @@
 // What is tested of the counts, chains and marks of a page.
 ghost use Rattle.std.specs.Prelude.{◌≡◌, [], length, Decides};
-ghost use Rattle.std.specs.List.{AllByRecursion as All};
+ghost use Rattle.std.specs.List.{AllByRecursion};
 ghost use Rattle.ratchet.specs.State.{state_of};
 ghost use Rattle.exchange.specs.Held.{blank};
 ghost use Rattle.page.specs.Valid.{Below, Rising, Aside, Untaken, Unsent, Begun, parity_of, Sound};
@@ -41,7 +41,7 @@ fn is_aside(mark: Mark, drawn: u32, taken: u32) -> bool
 
 // Whether it can have put all of these aside.
 fn are_aside(marks: &[Mark], drawn: u32, taken: u32) -> bool
-    ensures { Decides result (All (Aside drawn taken) marks.now) }
+    ensures { Decides result (AllByRecursion (Aside drawn taken) marks.now) }
 {
     for mark in marks {
         if !is_aside(*mark, drawn, taken) {

@@ -86,6 +86,9 @@ def main():
             path = os.path.join(folder, name)
             names = dict(everywhere)
             names.update(within.get(path.split(os.sep)[1], {}))
+            if name.endswith(".rt"):
+                # a name in snake case is a function's there
+                names = {a: b for a, b in names.items() if re.search(r"[A-Z-]", a)}
             with open(path, encoding="utf-8") as f:
                 old = f.read()
             new = turned(old, names, path)

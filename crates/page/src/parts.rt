@@ -18,7 +18,7 @@ fn four_at(bytes: &[u8], at: usize) -> u32
 }
 
 // The number in the two bytes from a place on.
-fn two_at_lem(bytes: &[u8], at: usize) -> u16
+fn two_at(bytes: &[u8], at: usize) -> u16
     requires { at + 2 ≤ length bytes.now }
     ensures { result ≡ two_at bytes.now at }
 {
@@ -30,7 +30,7 @@ pub(crate) fn count_in(bytes: &[u8]) -> usize
     requires { 147 ≤ length bytes.now }
     ensures { result ≡ two_at bytes.now 145 }
 {
-    two_at_lem(bytes, 145) as usize
+    two_at(bytes, 145) as usize
 }
 
 // The 32 bytes from a place on.

@@ -18,7 +18,7 @@ fn four_at(bytes: &[u8], at: usize) -> u32
 }
 
 // The number in the two bytes from a place on.
-fn two_at_lem(bytes: &[u8], at: usize) -> u16
+fn two_at(bytes: &[u8], at: usize) -> u16
     requires { at + 2 ≤ length bytes.now }
     ensures { result ≡ two_at bytes.now at }
 {
@@ -51,7 +51,7 @@ fn header_of(bytes: &[u8]) -> Header
     Header {
         message,
         half: half_at(bytes, 13),
-        length: two_at_lem(bytes, 45),
+        length: two_at(bytes, 45),
     }
 }
 

@@ -3,7 +3,11 @@
 
 use console::program;
 use script::rehearsal::View;
+use std::process::ExitCode;
 
-fn main(rt: HostRuntime) -> Result<(), ()> {
-    program(&rt, "open", View::Openness)
+fn main(rt: HostRuntime) -> ExitCode {
+    match program(&rt, "open", View::Openness) {
+        Ok(()) => ExitCode::SUCCESS,
+        Err(()) => ExitCode::FAILURE,
+    }
 }

@@ -3,7 +3,11 @@
 
 use console::program;
 use script::rehearsal::View;
+use std::process::ExitCode;
 
-fn main(rt: HostRuntime) -> Result<(), ()> {
-    program(&rt, "rehearse", View::Sides)
+fn main(rt: HostRuntime) -> ExitCode {
+    match program(&rt, "rehearse", View::Sides) {
+        Ok(()) => ExitCode::SUCCESS,
+        Err(()) => ExitCode::FAILURE,
+    }
 }

@@ -1,4 +1,4 @@
-//! Sides through all that the library lets be seen: talks, refusals, damage, pages, and the same beside the model.
+//! Sides through all that the library lets be seen: talks, refusals, damage and pages.
 
 mod damage;
 mod pages;

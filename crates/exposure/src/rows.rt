@@ -10,6 +10,7 @@ use notation::faults::Fault;
 use ratchet::sides::Side;
 use ratchet::types::Mark;
 use std::alloc::Global;
+use std::io::Write;
 
 // The word for a key by the rule.
 fn open_word(open: bool) -> &'static str
@@ -27,7 +28,6 @@ fn known_word(known: bool) -> &'static str
 
 // Appends `M L/P open known`, each word by its bool.
 pub fn put_row(
-    heap: Global,
     out: &mut Vec<u8>,
     number: usize,
     mark: Mark,
@@ -36,12 +36,10 @@ pub fn put_row(
 ) -> Result<(), Fault>
     ensures { OnOk result (out.new.items ≡ out.old.items ++ row_of number mark «open» known) }
 {
-    let link = mark.link;
-    let place = mark.place;
+    let Mark { link, place } = mark;
     let first = open_word(open);
     let second = known_word(known);
-    let line = format!(in heap; "{number} {link}/{place} {first} {second}\n")?;
-    out.extend_from_slice(line.as_bytes())?;
+    writeln!(out, "{number} {link}/{place} {first} {second}")?;
     Ok(())
 }
 
@@ -77,7 +75,7 @@ pub fn put_rows(
         let open = rule.exposed(readings, *mark);
         let known = workings.known(readings, *mark);
         number += 1;
-        put_row(heap, out, number, *mark, open, known)?;
+        put_row(out, number, *mark, open, known)?;
     }
     Ok(())
 }

@@ -1,5 +1,5 @@
 -- What a device's step is to the world of the two, and how a message is found by its number.
-use Rattle.std.proofs.Common.{◌≡◌, ℕ, ◌-◌, ◌<◌, ◌≤◌, Bool, true, false, cond, ◌&&◌, eqb, leb, ◌⊎◌, length, get_or, IfOk, Ok, Err, vec_items, vec_len, Result, sym, refl, ap, ◌∙◌, subst, inl, inr, arith}
+use Rattle.std.proofs.Common.{◌≡◌, ℕ, ◌-◌, ◌<◌, ◌≤◌, Bool, true, false, cond, ◌&&◌, eqb, leb, ◌⊎◌, length, get_or, IfOk, Ok, Err, vec_items, vec_len, Option, Result, sym, refl, ap, ◌∙◌, subst, inl, inr, arith}
 use Rattle.std.proofs.lemmas.List.{length-map, get_or-map}
 use Rattle.std.proofs.lemmas.Bool.{eq-eqb, ne_eqb, le-leb, lt-leb}
 use Rattle.ratchet.specs.declared.types.Message.{Message}
@@ -8,7 +8,7 @@ use Rattle.ratchet.specs.Steps.{Answer, kept, refused, take}
 use Rattle.runs.specs.declared.types.Who.{Who}
 use Rattle.runs.specs.declared.types.Who.TheVariants.{First, Second}
 use Rattle.runs.specs.World.{Party, among, party, other, performed, take_effects, with_party}
-use Rattle.stage.specs.declared.types.Due.{Due}
+use Rattle.stage.specs.declared.types.When.{When}
 use Rattle.notation.specs.declared.faults.Fault.{Fault}
 use Rattle.stage.specs.declared.types.Taking.{Taking}
 use Rattle.stage.specs.declared.device.Device.{Device}
@@ -27,7 +27,7 @@ and_true true c e = sym e
 and_true false c e = refl
 
 -- a refused message has no effects, and an accepted one has two
-two-effects : (d : Due) (a : Answer) (m : Message) (p : Party) → carried_out d (take_effects a m) p ≡ performed (up_to d 2) (take_effects a m) p
+two-effects : (d : Option When) (a : Answer) (m : Message) (p : Party) → carried_out d (take_effects a m) p ≡ performed (up_to d 2) (take_effects a m) p
 two-effects d (kept s) m p = refl
 two-effects d (refused n) m p = refl
 

@@ -4,11 +4,11 @@ ghost use Rattle.ratchet.specs.State.{state_of};
 ghost use Rattle.runs.specs.World.{start, step, reads, among, party};
 ghost use Rattle.stage.specs.Plan.{Planned};
 ghost use Rattle.stage.specs.Devices.{plan_of};
-ghost use Rattle.stage.specs.Players.{world_of, letters_of, Post, post_of, bit_is_there, device, SendPlayed, Delivered, DeliveryIs, Looked};
+ghost use Rattle.stage.specs.Players.{world_of, letters_of, Post, post_of, bit_is_there, device, SendPlayed, Delivered, Deliverable, DeliveryIs, Looked};
 
 use crate::device::Device;
 use crate::player::{Letter, Player};
-use crate::types::{Delivery, Planning, Sending, Stop, Taking};
+use crate::types::{BadStop, NoDelivery, Sending, Stop, Taking};
 use notation::faults::Fault;
 use ratchet::sides::Side;
 use ratchet::steps;
@@ -36,10 +36,7 @@ fn keep_letter(letters: &mut Vec<Letter>, letter: Letter) -> Result<(), Fault>
 fn has_bit(text_length: usize, flip: Option<usize>) -> bool
     ensures { (l : Post) → length l.text ≡ text_length → result ≡ bit_is_there flip l }
 {
-    match flip {
-        None => true,
-        Some(bit) => bit / 8 < text_length.saturating_add(63),
-    }
+    flip.is_none_or(|bit| bit / 8 < text_length.saturating_add(63))
 }
 
 impl Player {
@@ -99,7 +96,7 @@ impl Player {
     }
 
     // A stop is planned for one.
-    pub fn plan(&mut self, who: Who, stop: Stop) -> Result<Planning, Fault>
+    pub fn plan(&mut self, who: Who, stop: Stop) -> Result<Result<(), BadStop>, Fault>
         ensures plan { IfOk result (Planned stop (plan_of (device who self.old)) (plan_of (device who self.new))) }
         ensures world { world_of self.new ≡ world_of self.old }
         ensures letters { letters_of self.new ≡ letters_of self.old }
@@ -142,20 +139,31 @@ impl Player {
         }
     }
 
-    // The other side takes message `number`, with a bit turned if one is named.
-    pub fn deliver(&mut self, number: usize, flip: Option<usize>) -> Result<Delivery, Fault>
-        ensures { IfOk result (DeliveryIs number flip self.old self.new) }
+    // Message `number`, and who sent it, if it can be delivered with this bit turned, if one is named.
+    fn deliverable(&self, number: usize, flip: Option<usize>) -> Result<(Who, Message), NoDelivery>
+        ensures { Deliverable number flip self.now result }
     {
-        let Some((from, message, text_length)) = self.find(number) else {
-            return Ok(Delivery::NoSuchMessage);
-        };
+        let (from, message, text_length) = self.find(number).ok_or(NoDelivery::NoSuchMessage)?;
         if !has_bit(text_length, flip) {
-            return Ok(Delivery::NoSuchBit);
+            return Err(NoDelivery::NoSuchBit);
         }
         if !self.has_left(from, message) {
-            return Ok(Delivery::NeverLeft);
+            return Err(NoDelivery::NeverLeft);
         }
-        let taking = self.hand_over(from, message, flip.is_none())?;
-        Ok(Delivery::Taken(taking))
+        Ok((from, message))
+    }
+
+    // The other side takes message `number`, with a bit turned if one is named.
+    pub fn deliver(
+        &mut self,
+        number: usize,
+        flip: Option<usize>,
+    ) -> Result<Result<Taking, NoDelivery>, Fault>
+        ensures { IfOk result (DeliveryIs number flip self.old self.new) }
+    {
+        match self.deliverable(number, flip) {
+            Ok((from, message)) => Ok(Ok(self.hand_over(from, message, flip.is_none())?)),
+            Err(why) => Ok(Err(why)),
+        }
     }
 }

@@ -1,10 +1,12 @@
 // The steps of a rehearsal: each is an event of the world that the player holds.
 ghost use Rattle.std.specs.Prelude.{◌≡◌, true, [], ◌∷◌, ◌++◌, map, length, IfOk, OnOk};
 ghost use Rattle.ratchet.specs.State.{state_of};
-ghost use Rattle.runs.specs.World.{start, step, reads, among, party};
+ghost use Rattle.runs.specs.World.{start, step, reads, among, party, other};
 ghost use Rattle.stage.specs.Plan.{Planned};
 ghost use Rattle.stage.specs.Devices.{plan_of};
 ghost use Rattle.stage.specs.Players.{world_of, letters_of, Post, post_of, bit_is_there, device, SendPlayed, Delivered, Deliverable, DeliveryIs, Looked};
+ghost use Rattle.stage.specs.Lending.{LendsDevice};
+ghost use Rattle.std.specs.Borrow.{sem};
 
 use crate::device::Device;
 use crate::player::{Letter, Player};
@@ -39,6 +41,16 @@ fn has_bit(text_length: usize, flip: Option<usize>) -> bool
     flip.is_none_or(|bit| bit / 8 < text_length.saturating_add(63))
 }
 
+// The other of the two sides.
+fn other(who: Who) -> Who
+    ensures { result ≡ other who }
+{
+    match who {
+        Who::First => Who::Second,
+        Who::Second => Who::First,
+    }
+}
+
 impl Player {
     // The two as they begin.
     pub fn new(heap: Global) -> Player
@@ -53,44 +65,50 @@ impl Player {
         }
     }
 
+    // The device of one side.
+    fn device(&self, who: Who) -> &Device
+        ensures { result.now ≡ device who self.now }
+    {
+        match who {
+            Who::First => &self.first,
+            Who::Second => &self.second,
+        }
+    }
+
+    // The device of one side, to be changed.
+    fn device_mut(&mut self, who: Who) -> &mut Device
+        ensures* lends { sem 𝓛 (LendsDevice self.entry who result) }
+        ensures value { result.now ≡ device who self.old }
+    {
+        match who {
+            Who::First => &mut self.first,
+            Who::Second => &mut self.second,
+        }
+    }
+
     // One is read out.
     pub fn read(&mut self, who: Who) -> Result<(), Fault>
         ensures world { OnOk result (world_of self.new ≡ step (reads who) (world_of self.old)) }
         ensures letters { letters_of self.new ≡ letters_of self.old }
     {
-        match who {
-            Who::First => keep_reading(&mut self.readings, self.first.side),
-            Who::Second => keep_reading(&mut self.readings, self.second.side),
-        }
+        let side = self.device(who).side;
+        keep_reading(&mut self.readings, side)
     }
 
     // One sends a text.
     pub fn send(&mut self, from: Who, text: Vec<u8>) -> Result<Sending, Fault>
         ensures { IfOk result (SendPlayed from text.items self.old self.new) }
     {
-        let outcome = match from {
-            Who::First => self.first.send(text.len())?,
-            Who::Second => self.second.send(text.len())?,
-        };
-        match outcome {
-            Sending::Sent(message) => keep_letter(
+        let outcome = self.device_mut(from).send(text.len())?;
+        if let Sending::Sent(message) | Sending::Lost(message) = outcome {
+            keep_letter(
                 &mut self.letters,
                 Letter {
                     from,
                     message,
                     text,
                 },
-            )?,
-            Sending::Lost(message) => keep_letter(
-                &mut self.letters,
-                Letter {
-                    from,
-                    message,
-                    text,
-                },
-            )?,
-            Sending::Stopped => {}
-            Sending::Refused(_) => {}
+            )?;
         }
         Ok(outcome)
     }
@@ -101,10 +119,7 @@ impl Player {
         ensures world { world_of self.new ≡ world_of self.old }
         ensures letters { letters_of self.new ≡ letters_of self.old }
     {
-        match who {
-            Who::First => self.first.plan(stop),
-            Who::Second => self.second.plan(stop),
-        }
+        self.device_mut(who).plan(stop)
     }
 
     // Message `number`: who sent it, what it is, and how long its text is.
@@ -122,10 +137,7 @@ impl Player {
     fn has_left(&self, from: Who, message: Message) -> bool
         ensures { result ≡ among message (party from (world_of self.now)).left }
     {
-        match from {
-            Who::First => self.first.has_left(message),
-            Who::Second => self.second.has_left(message),
-        }
+        self.device(from).has_left(message)
     }
 
     // A message of one side that left comes to the other.
@@ -133,10 +145,7 @@ impl Player {
         requires { among message (party from (world_of self.old)).left ≡ true }
         ensures { IfOk result (Delivered from message whole self.old self.new) }
     {
-        match from {
-            Who::First => self.second.take(message, whole),
-            Who::Second => self.first.take(message, whole),
-        }
+        self.device_mut(other(from)).take(message, whole)
     }
 
     // Message `number`, and who sent it, if it can be delivered with this bit turned, if one is named.

@@ -6,12 +6,11 @@ ghost use Rattle.stage.specs.Devices.{party_of, plan_of, page_after, SendDone, T
 ghost use Rattle.stage.specs.Plan.{due_next, plan_after, Planned};
 
 use crate::device::Device;
-use crate::searches;
 use crate::types::{BadStop, Sending, Stop, Taking, When};
 use notation::faults::Fault;
 use ratchet::sides::Side;
 use ratchet::steps;
-use ratchet::steps::{Sent, Taken};
+use ratchet::steps::Taken;
 use ratchet::types::Message;
 use std::alloc::Global;
 use std::collections::BTreeMap;
@@ -38,7 +37,7 @@ impl Device {
     pub fn has_left(&self, message: Message) -> bool
         ensures { result ≡ among message self.now.left.items }
     {
-        searches::holds(&self.left, message)
+        self.left.contains(&message)
     }
 
     // Plans a stop, for a write that is to come and has none yet.
@@ -64,8 +63,8 @@ impl Device {
         ensures { IfOk result (SendDone text_length self.old self.new) }
     {
         let (next, message) = match steps::send(self.side, text_length) {
-            Sent::Refused(_, why) => return Ok(Sending::Refused(why)),
-            Sent::Sealed(next, message) => (next, message),
+            Ok(sealed) => sealed,
+            Err(refused) => return Ok(Sending::Refused(refused.why)),
         };
         let stop = self.write(next)?;
         if let Some(When::Before) = stop {

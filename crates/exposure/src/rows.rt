@@ -9,7 +9,6 @@ use crate::working::Workings;
 use notation::faults::Fault;
 use ratchet::sides::Side;
 use ratchet::types::Mark;
-use std::alloc::Global;
 use std::io::Write;
 
 // Appends `M L/P open known`, each word by its bool.
@@ -40,15 +39,11 @@ fn links_above(marks: &[Mark]) -> usize
 }
 
 // Appends a row for each message, numbered from 1.
-pub fn put_rows(
-    heap: Global,
-    readings: &[Side],
-    marks: &[Mark],
-    out: &mut Vec<u8>,
-) -> Result<(), Fault>
+pub fn put_rows(readings: &[Side], marks: &[Mark], out: &mut Vec<u8>) -> Result<(), Fault>
     ensures rows { OnOk result (out.new.items ≡ out.old.items ++ rows_of (map state_of readings.now) marks.now) }
     ensures agree { Agree (map state_of readings.now) }
 {
+    let heap = *out.allocator();
     let count = links_above(marks);
     let rule = Rule::new(heap, readings, count)?;
     let workings = Workings::new(heap, readings, count)?;

@@ -1,5 +1,6 @@
 -- A rehearsal seen as a world, and what its steps do to it.
 -- Assumes nothing.
+use Rattle.std.specs.Borrow.{Bor}
 use Rattle.std.specs.Prelude.{◌≡◌, ℕ, ◌+◌, ◌-◌, ◌*◌, Bool, true, false, cond, List, [], ◌∷◌, ◌++◌, map, length, Some, None, Ok, Err, vec_items, Option, Result, ◌==◌, nat_le, nat_lt, slice_index_or}
 use Rattle.ratchet.specs.Same.{no_message}
 use Rattle.ratchet.specs.declared.types.Message.{Message}
@@ -107,8 +108,7 @@ DeliveryIs n flip p q (Ok r) =
     (is_there n p ≡ true) × (bit_is_there flip (numbered n p) ≡ true) × (has_left (numbered n p) p ≡ true) ×
     Delivered (numbered n p).from (numbered n p).message (whole flip) p q r
 
--- what a look-up of message n found: who sent it, the message, and how long its text is
-abbrev pub Looked : ℕ → Player → Option (Who × Message × ℕ) → Type 0
+-- what a look-up of message n found: the message with who sent it and its text
+abbrev pub Looked : ℕ → Player → Option (Bor Letter) → Type 0
 Looked n p None = is_there n p ≡ false
-Looked n p (Some t) =
-    (is_there n p ≡ true) × (t.0 ≡ (numbered n p).from) × (t.1 ≡ (numbered n p).message) × (t.2 ≡ length (numbered n p).text)
+Looked n p (Some l) = (is_there n p ≡ true) × (post_of l.now ≡ numbered n p)

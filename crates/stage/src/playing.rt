@@ -4,7 +4,7 @@ ghost use Rattle.ratchet.specs.State.{state_of};
 ghost use Rattle.runs.specs.World.{start, step, reads, among, party, other};
 ghost use Rattle.stage.specs.Plan.{Planned};
 ghost use Rattle.stage.specs.Devices.{plan_of};
-ghost use Rattle.stage.specs.Players.{world_of, letters_of, Post, post_of, bit_is_there, device, SendPlayed, Delivered, Deliverable, DeliveryIs, Looked};
+ghost use Rattle.stage.specs.Players.{world_of, letters_of, post_of, bit_is_there, device, SendPlayed, Delivered, Deliverable, DeliveryIs, Looked};
 ghost use Rattle.stage.specs.Lending.{LendsDevice};
 ghost use Rattle.std.specs.Borrow.{sem};
 
@@ -34,11 +34,13 @@ fn keep_letter(letters: &mut Vec<Letter>, letter: Letter) -> Result<(), Fault>
     Ok(())
 }
 
-// Is the bit to be turned, if any, in a message whose text has so many bytes.
-fn has_bit(text_length: usize, flip: Option<usize>) -> bool
-    ensures { (l : Post) → length l.text ≡ text_length → result ≡ bit_is_there flip l }
-{
-    flip.is_none_or(|bit| bit / 8 < text_length.saturating_add(63))
+impl Letter {
+    // Is the bit to be turned, if any, in the message.
+    fn has_bit(&self, flip: Option<usize>) -> bool
+        ensures { result ≡ bit_is_there flip (post_of self.now) }
+    {
+        flip.is_none_or(|bit| bit / 8 < self.text.len().saturating_add(63))
+    }
 }
 
 // The other of the two sides.
@@ -122,22 +124,11 @@ impl Player {
         self.device_mut(who).plan(stop)
     }
 
-    // Message `number`: who sent it, what it is, and how long its text is.
-    pub fn find(&self, number: usize) -> Option<(Who, Message, usize)>
+    // Message `number`, counted from 1.
+    pub fn find(&self, number: usize) -> Option<&Letter>
         ensures { Looked number self.now result }
     {
-        if number == 0 || number > self.letters.len() {
-            return None;
-        }
-        let letter = &self.letters[number - 1];
-        Some((letter.from, letter.message, letter.text.len()))
-    }
-
-    // Did a message of one side leave it.
-    fn has_left(&self, from: Who, message: Message) -> bool
-        ensures { result ≡ among message (party from (world_of self.now)).left }
-    {
-        self.device(from).has_left(message)
+        self.letters.get(number.checked_sub(1)?)
     }
 
     // A message of one side that left comes to the other.
@@ -152,14 +143,14 @@ impl Player {
     fn deliverable(&self, number: usize, flip: Option<usize>) -> Result<(Who, Message), NoDelivery>
         ensures { Deliverable number flip self.now result }
     {
-        let (from, message, text_length) = self.find(number).ok_or(NoDelivery::NoSuchMessage)?;
-        if !has_bit(text_length, flip) {
+        let letter = self.find(number).ok_or(NoDelivery::NoSuchMessage)?;
+        if !letter.has_bit(flip) {
             return Err(NoDelivery::NoSuchBit);
         }
-        if !self.has_left(from, message) {
+        if !self.device(letter.from).has_left(letter.message) {
             return Err(NoDelivery::NeverLeft);
         }
-        Ok((from, message))
+        Ok((letter.from, letter.message))
     }
 
     // The other side takes message `number`, with a bit turned if one is named.

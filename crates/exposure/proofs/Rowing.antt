@@ -1,6 +1,5 @@
 -- Rows one after another, and that their two words agree.
-use Rattle.std.proofs.Common.{◌≡◌, ℕ, zero, suc, ◌+◌, ◌<◌, ◌≤◌, Bool, List, [], ◌∷◌, ◌++◌, length, get_or, take, sym, refl, ap, ◌∙◌, append_assoc, append-nil, add-zero, add-one, arith}
-use Rattle.std.proofs.lemmas.List.{take_all}
+use Rattle.std.proofs.Common.{◌≡◌, ℕ, zero, suc, ◌+◌, ◌<◌, Bool, List, [], ◌∷◌, ◌++◌, length, get_or, take, sym, refl, ap, ◌∙◌, append_assoc, append-nil, add-zero, add-one, arith}
 use Rattle.ratchet.specs.declared.types.Mark.{Mark}
 use Rattle.ratchet.specs.State.{State}
 use Rattle.runs.specs.Rule.{exposed}
@@ -44,6 +43,3 @@ module _ (rs : List State) where
       let k : n + 1 ≡ 1 + i = omega arith in
       let more = rows_more 1 ms i d h in
       let joined = append_assoc out (rows_of rs (take i ms)) (row_by rs (1 + i) m) in cc
-
-  pub rows_all : (out now : List ℕ) (ms : List Mark) (i : ℕ) → length ms ≤ i → now ≡ out ++ rows_of rs (take i ms) → now ≡ out ++ rows_of rs ms
-  rows_all out now ms i h e = e ∙ ap (λ (l : List Mark). out ++ rows_of rs l) (take_all i ms h)

@@ -1,5 +1,5 @@
 -- Texts and numbers as scripts write them: the steps of their loops.
-use Rattle.std.proofs.Common.{◌≡◌, ℕ, ◌+◌, ◌<◌, ◌≤◌, false, eqb, List, [], ◌∷◌, ◌++◌, length, get_or, take, Some, None, fold, Option, sym, refl, ap, ◌∙◌, append-nil}
+use Rattle.std.proofs.Common.{◌≡◌, ℕ, ◌+◌, ◌<◌, ◌≤◌, false, eqb, List, [], ◌∷◌, ◌++◌, length, get_or, take, Some, None, fold, Option, sym, refl, ap, ◌∙◌}
 use Rattle.std.specs.List.{flat_map}
 use Rattle.std.proofs.lemmas.List.{take_more, take_all, flat_map_more}
 use Rattle.std.proofs.lemmas.List.Sums.{fold_more}
@@ -8,9 +8,6 @@ use Rattle.notation.specs.Decimals.{digit_after, number_of}
 use Rattle.notation.specs.declared.text.Escape.{Escape}
 use Rattle.notation.specs.declared.text.Escape.TheVariants.{Plain, Slash, Hex, Digit, Bad}
 use Rattle.notation.specs.Escapes.{escaped, escaped_byte, Scan, scan, scanned, after, emitted, ended, unescaped}
-
-pub escaped-none : (bs xs : List ℕ) → bs ≡ bs ++ escaped (take 0 xs)
-escaped-none bs xs = sym (append-nil bs)
 
 pub escaped-more : (bs xs : List ℕ) (i : ℕ) → i < length xs → bs ++ escaped (take i xs) ++ escaped_byte (get_or xs i 0) ≡ bs ++ escaped (take (i + 1) xs)
 escaped-more bs xs i h =

@@ -2,9 +2,7 @@
 ghost use Rattle.notation.specs.Laws.{TextsReadBack, NumbersReadBack};
 
 // What is written is read back.
-pub fn notation_reads_back() -> u8
+pub fn notation_reads_back()
     ensures texts { TextsReadBack }
     ensures numbers { NumbersReadBack }
-{
-    0
-}
+{}

@@ -1,3 +1,2 @@
-mod Joins
 mod Lines
 mod Runs

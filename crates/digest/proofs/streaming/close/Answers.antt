@@ -11,4 +11,4 @@ returns-then-used-lt56 c =
 pub returns : goal.returns
 returns c =
     close_two c.args.value.now c.args.last.now c.args.used c.args.bits c.requires.0 _ _ _ _ _ (omega arith) (omega arith)
-    c.mark.ensures c.compress-2.ensures c.wipe.ensures c.write_length-2.ensures c.compress-3.ensures
+    c.mark.ensures c.compress-2.ensures (c.fill.ensures.after (λ y e. e)) c.write_length-2.ensures c.compress-3.ensures

@@ -1,2 +1,3 @@
--- Lemmas of this crate.
-pub mod Compared
+-- Lemmas that several proofs share; Places has what other crates need.
+mod Compared
+pub mod Places

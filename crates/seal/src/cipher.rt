@@ -5,8 +5,7 @@ ghost use Rattle.seal.specs.Streaming.{Counts, StreamAnswer};
 
 use crate::block::{apply_block, initial_state};
 use crate::keys::{MessageKey, Nonce};
-use crate::wipe::work_in;
-use octets::wipe;
+use octets::{wipe, work_in};
 
 // Says that the counter of a block of the text would pass 32 bits.
 #[derive(Drop)]

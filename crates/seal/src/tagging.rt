@@ -3,9 +3,8 @@ ghost use Rattle.std.specs.Prelude.{◌≡◌, Decides};
 ghost use Rattle.seal.specs.Sealing.{tag_of};
 
 use crate::keys::{MessageKey, Tag};
-use crate::wipe::work_in;
 use digest::{hmac, hmac_parts};
-use octets::{part_at, same, wipe};
+use octets::{part_at, same, wipe, work_in};
 
 // What the message's key is digested with for the key of the tag.
 const TAG_LABEL: [u8; 1] = [3];

@@ -1,5 +1,7 @@
 -- Words as bytes and bytes as words, a step of a loop at a time.
-use Rattle.std.proofs.Common.{◌≡◌, ℕ, zero, suc, ◌+◌, ◌*◌, ◌<◌, ◌≤◌, List, [], ◌∷◌, ◌++◌, length, get_or, take, set, sym, refl, ap, ◌∙◌, add-one, arith, length-append, length-set}
+use Rattle.std.proofs.Common.{◌≡◌, ℕ, zero, suc, ◌+◌, ◌*◌, ◌<◌, ◌≤◌, List, [], ◌∷◌, ◌++◌, length, map, get_or, take, set, sym, refl, ap, ◌∙◌, add-one, arith, length-append, length-set}
+use Rattle.std.specs.List.{range_with_len}
+use Rattle.std.proofs.lemmas.List.FromFn.{map-range_with_len_more}
 use Rattle.std.proofs.lemmas.List.{append_assoc, append-nil, take_all, take_more, take_more_set}
 use Rattle.digest.specs.Sha256.{bytes, parsed, sums, word, word_bytes}
 use Rattle.digest.proofs.Lists.{elements, by_elements}
@@ -16,11 +18,13 @@ pub length-parsed : (b : List ℕ) (n : ℕ) → length (parsed b n) ≡ n
 length-parsed b zero = rw parsed-none
 length-parsed b (suc n) = rw (parsed-more, length-append) (omega (arith, length-parsed b n))
 
-pub load_more : (b w : List ℕ) (i x : ℕ) → i < length w → take i w ≡ parsed b i → x ≡ word b i → take (i + 1) (set w i x) ≡ parsed b (i + 1)
-load_more b w i x lt was here =
-    let put = take_more_set w i x lt in
-    let more = parsed-more b i in
-    let one = add-one i in
+pub parsed-by : (b : List ℕ) (n : ℕ) → parsed b n ≡ map (word b) (range_with_len 0 n)
+parsed-by b zero = parsed-none b
+parsed-by b (suc n) =
+    let more = map-range_with_len_more (word b) 0 n n (omega arith) in
+    let was = parsed-by b n in
+    let here = parsed-more b n in
+    let one = add-one n in
     cc
 
 bytes-push : (ws : List ℕ) (w : ℕ) → bytes (ws ++ w ∷ []) ≡ bytes ws ++ word_bytes w

@@ -1,9 +1,11 @@
 // The compression of one block: its words, their schedule sixteen at a time, and the rounds.
 ghost use Rattle.std.specs.Prelude.{◌≡◌, ℕ, ◌+◌, ◌*◌, ◌/◌, ◌<◌, ◌≤◌, List, [], ◌∷◌, ◌++◌, length, drop};
-ghost use Rattle.digest.specs.Sha256.{round, rounds, schedule, next_word, parsed, sums, compressed, absorbed, bytes};
+ghost use Rattle.digest.specs.Sha256.{round, rounds, schedule, next_word, parsed, sums, compressed, absorbed, bytes, word};
 ghost use Rattle.digest.specs.Work.{Stands};
 
 use crate::words::*;
+use octets::part_at;
+use std::array;
 
 // The working variables a to h, and the next sixteen words of the schedule.
 #[derive(Clone, Copy)]
@@ -101,21 +103,19 @@ fn last_rounds(x: Work) -> [u32; 8]
     one_round(s14, constant(63), w[15])
 }
 
-// The sixteen words of a block, the high byte first.
-fn load(block: &[u8]) -> [u32; 16]
-    requires { length block.now ≡ 64 }
+// A word of a block, the high byte first.
+fn word_at(block: &[u8; 64], i: usize) -> u32
+    requires { i < 16 }
+    ensures { result ≡ word block.now i }
+{
+    u32::from_be_bytes(part_at(block, 4 * i))
+}
+
+// The sixteen words of a block.
+fn load(block: &[u8; 64]) -> [u32; 16]
     ensures { result ≡ parsed block.now 16 }
 {
-    let mut w = [0u32; 16];
-    for i in 0..16usize {
-        w[i] = u32::from_be_bytes([
-            block[4 * i],
-            block[4 * i + 1],
-            block[4 * i + 2],
-            block[4 * i + 3],
-        ]);
-    }
-    w
+    array::from_fn(|i| word_at(block, i))
 }
 
 // Two hash values added word by word.
@@ -135,8 +135,7 @@ fn add_words(x: [u32; 8], y: [u32; 8]) -> [u32; 8]
 }
 
 // Takes one more block into the hash value.
-pub fn compress(value: &mut [u32; 8], block: &[u8])
-    requires { length block.now ≡ 64 }
+pub fn compress(value: &mut [u32; 8], block: &[u8; 64])
     ensures { value.new ≡ compressed value.old block.now }
 {
     let before = *value;
@@ -152,13 +151,16 @@ pub fn compress(value: &mut [u32; 8], block: &[u8])
     *value = after;
 }
 
-// Takes all whole blocks of a message into the hash value.
-pub fn absorb(value: &mut [u32; 8], message: &[u8])
-    ensures { value.new ≡ absorbed value.old message.now (length message.now / 64) }
+// Takes all whole blocks of a message into the hash value, and answers what stands behind them.
+pub fn absorb<'a>(value: &mut [u32; 8], message: &'a [u8]) -> &'a [u8]
+    ensures value { value.new ≡ absorbed value.old message.now (length message.now / 64) }
+    ensures behind { result.now ≡ drop (64 * (length message.now / 64)) message.now }
 {
-    for n in 0..message.len() / 64 {
-        compress(value, &message[64 * n..64 * n + 64]);
+    let (blocks, behind) = message.as_chunks::<64>();
+    for block in blocks {
+        compress(value, block);
     }
+    behind
 }
 
 // Writes words as bytes, the high byte first.

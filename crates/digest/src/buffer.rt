@@ -1,24 +1,9 @@
 // Writes to lent bytes.
-ghost use Rattle.std.specs.Prelude.{◌≡◌, ◌+◌, ◌-◌, ◌<◌, ◌≤◌, ◌∷◌, ◌++◌, length, take, drop, replicate};
+ghost use Rattle.std.specs.Prelude.{◌≡◌, ◌-◌, ◌<◌, ◌∷◌, ◌++◌, length, take, replicate};
 ghost use Rattle.digest.specs.Hmac.{xored};
 ghost use Rattle.digest.specs.Sha256.{length_bytes};
 
-// Copies part into bytes, from a place on.
-pub fn put(bytes: &mut [u8], at: usize, part: &[u8])
-    requires { at + length part.now ≤ length bytes.old }
-    ensures { bytes.new ≡ take at bytes.old ++ (part.now ++ drop (at + length part.now) bytes.old) }
-{
-    bytes[at..at + part.len()].copy_from_slice(part);
-}
-
-// Overwrites with zeros. No contract keeps the compiler from leaving out a write that nothing reads.
-pub fn wipe(bytes: &mut [u8])
-    ensures { bytes.new ≡ replicate (length bytes.old) 0 }
-{
-    for i in 0..bytes.len() {
-        bytes[i] = 0;
-    }
-}
+use octets::put;
 
 // Writes a one bit behind the first bytes, and zeros to the end.
 pub fn mark(bytes: &mut [u8], at: usize)
@@ -27,7 +12,7 @@ pub fn mark(bytes: &mut [u8], at: usize)
 {
     let end = bytes.len();
     bytes[at] = 0x80;
-    wipe(&mut bytes[at + 1..end]);
+    bytes[at + 1..end].fill(0);
 }
 
 // Writes a number of 64 bits into the last eight bytes of a block, the high byte first.
@@ -42,7 +27,7 @@ pub fn write_length(block: &mut [u8], bits: u64)
 pub fn xor_each(bytes: &mut [u8], pad: u8)
     ensures { bytes.new ≡ xored pad bytes.old }
 {
-    for i in 0..bytes.len() {
-        bytes[i] ^= pad;
+    for byte in bytes.iter_mut() {
+        *byte ^= pad;
     }
 }

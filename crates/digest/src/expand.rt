@@ -4,8 +4,8 @@ ghost use Rattle.digest.specs.Hkdf.{expanded, hkdf_sha_256, most};
 ghost use Rattle.digest.specs.Hmac.{hmac_sha_256};
 ghost use Rattle.digest.specs.Keyed.{Macs};
 
-use crate::buffer::{put, wipe};
 use crate::mac::{Mac, hmac};
+use octets::put;
 
 const MOST: usize = 255 * 32;
 
@@ -48,7 +48,7 @@ fn expand_key(key: &[u8], info: &[u8], out: &mut [u8])
         put(out, 32 * i, &block[0..size]);
     }
     start.wipe();
-    wipe(&mut block);
+    block.fill(0);
 }
 
 // Fills out with the key material for a salt, an input and an info; more than 255 blocks are refused.
@@ -62,6 +62,6 @@ pub fn hkdf(salt: &[u8], input: &[u8], info: &[u8], out: &mut [u8]) -> Result<()
     }
     let mut key = hmac(salt, input);
     expand_key(&key, info, out);
-    wipe(&mut key);
+    key.fill(0);
     Ok(())
 }

@@ -4,7 +4,6 @@ ghost use Rattle.digest.specs.Hmac.{filled, hmac_sha_256, xored};
 ghost use Rattle.digest.specs.Keyed.{Macs};
 ghost use Rattle.digest.specs.Streaming.{Holds, fresh};
 
-use crate::buffer::wipe;
 use crate::streaming::{Hasher, sha256};
 
 // The byte of the inner pad, and that of the outer one.
@@ -46,7 +45,7 @@ impl Mac {
         if key.len() > 64 {
             let mut digest = sha256(key);
             self.begin_short(&digest);
-            wipe(&mut digest);
+            digest.fill(0);
             return;
         }
         self.begin_short(key);

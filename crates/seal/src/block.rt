@@ -5,6 +5,7 @@ ghost use Rattle.seal.specs.ChaCha20.{plus, word, initial, serialized, block_of}
 
 use crate::keys::{MessageKey, Nonce};
 use crate::rounds::twenty_rounds;
+use octets::part_at;
 
 // "expand 32-byte k"
 const EXPAND: [u32; 4] = [0x61707865, 0x3320646e, 0x79622d32, 0x6b206574];
@@ -14,7 +15,7 @@ fn load(bytes: &[u8], at: usize) -> u32
     requires { at + 4 ≤ length bytes.now }
     ensures { result ≡ word bytes.now at }
 {
-    u32::from_le_bytes([bytes[at], bytes[at + 1], bytes[at + 2], bytes[at + 3]])
+    u32::from_le_bytes(part_at(bytes, at))
 }
 
 pub(crate) fn initial_state(key: &MessageKey, nonce: &Nonce, counter: u32) -> [u32; 16]

@@ -5,7 +5,7 @@ ghost use Rattle.seal.specs.Streaming.{Counts, StreamAnswer};
 
 use crate::block::{apply_block, initial_state};
 use crate::keys::{MessageKey, Nonce};
-use crate::wipe::{wipe, wipe_words, work_in};
+use octets::{wipe, work_in};
 
 // Says that the counter of a block of the text would pass 32 bits.
 #[derive(Drop)]
@@ -55,8 +55,8 @@ pub(crate) fn apply(key: &MessageKey, nonce: &Nonce, counter: u32, text: &mut [u
     let mut pad = [0; 64];
     run(&mut state, &mut words, &mut pad, key, nonce, counter, text);
     // The words' place is a known one, so that they can stay in registers.
-    let left = wipe_words(&mut state, size) | wipe_words(&mut words, 0);
-    work_in(wipe(&mut pad, size) | left as u8, text);
+    let left = wipe(&mut state, 0, size) | wipe(&mut words, 0, 0);
+    work_in(wipe(&mut pad, 0, size) | left as u8, text);
 }
 
 // Each byte of the text exclusive or the stream's byte at its place. The same call once more undoes it.

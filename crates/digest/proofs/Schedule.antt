@@ -1,7 +1,6 @@
 -- The schedule of a block's words, and the rounds, a step at a time.
-use Rattle.std.proofs.Common.{◌≡◌, ℕ, zero, suc, ◌+◌, ◌-◌, ◌*◌, ◌<◌, ◌≤◌, List, [], ◌∷◌, ◌++◌, length, get_or, drop, sym, refl, ap, ◌∙◌, subst, add-zero, add-suc, add-one, zero-add, arith, length-append}
-use Rattle.std.specs.List.{range_with_len}
-use Rattle.std.proofs.lemmas.List.{drop-append-le, drop-drop, get_or_append_left, get_or-drop, length_push, same_from_push}
+use Rattle.std.proofs.Common.{◌≡◌, ℕ, zero, suc, ◌+◌, ◌-◌, ◌<◌, ◌≤◌, List, [], ◌∷◌, ◌++◌, length, get_or, drop, sym, refl, ap, ◌∙◌, subst, add-zero, add-suc, add-one, arith, length-append}
+use Rattle.std.proofs.lemmas.List.{drop-append-le, drop-drop, get_or_append_left, get_or-drop}
 use Rattle.digest.specs.Sha256.{constants, next_word, round, rounds, schedule}
 use Rattle.digest.proofs.Lists.{elements, drop-elements}
 use Rattle.digest.specs.Work.{Stands}
@@ -77,13 +76,6 @@ slid w x len next =
     let rest = drop-elements w 15 1 len in
     ap (λ (ys : List ℕ). ys ++ x ∷ []) (sym rest) ∙ ap (λ (y : ℕ). drop 1 w ++ y ∷ []) next
 
-range-push : (a n : ℕ) → range_with_len a (suc n) ≡ range_with_len a n ++ (a + n) ∷ []
-range-push a zero = ap (λ (k : ℕ). k ∷ []) (sym (add-zero a))
-range-push a (suc n) =
-    let last : a + 1 + n ≡ a + suc n = omega (arith, add-suc a n) in
-    let rest = range-push (a + 1) n in
-    cc
-
 -- n rounds with their words, from t rounds on
 abbrev pub Turns : ℕ → ℕ → Work → Work → Type 0
 Turns t n x y = (h m : List ℕ) → length m ≡ 16 → Stands h m t x → Stands h m (t + n) y
@@ -92,22 +84,6 @@ pub turns_then : (t n : ℕ) {x y z : Work} → Turns t n x y → Turns (t + n) 
 turns_then t n {z = z} first more h m len st =
     let e : t + n + 1 ≡ t + suc n = omega (arith, add-suc t n) in
     rw e at (more h m len (first h m len st))
-
-pub stands_at : {h m : List ℕ} {x : Work} (i j : ℕ) → i ≡ j → Stands h m i x → Stands h m j x
-stands_at {h} {m} {x} i j e st = subst (λ (t : ℕ). Stands h m t x) e st
-
--- sixteen rounds are done for each number that was counted
-abbrev pub Turned : List ℕ → List ℕ → List ℕ → Work → Type 0
-Turned h m qs x = qs ≡ range_with_len 0 (length qs) → Stands h m (16 * length qs) x
-
-pub turned-more : (h m qs : List ℕ) (q : ℕ) (x y : Work) → length m ≡ 16 → Turned h m qs x → Turns (16 * q) 16 x y → Turned h m (qs ++ q ∷ []) y
-turned-more h m qs q x y len so_far turns counted =
-    let n = length qs in
-    let long = length_push qs q in
-    let more : range_with_len 0 (n + 1) ≡ range_with_len 0 n ++ n ∷ [] = ap (range_with_len 0) (add-one n) ∙ range-push 0 n ∙ ap (λ (k : ℕ). range_with_len 0 n ++ k ∷ []) (zero-add n) in
-    let both : (qs ≡ range_with_len 0 n) × (q ≡ n) = same_from_push qs (range_with_len 0 n) q n (counted ∙ ap (range_with_len 0) long ∙ more) in
-    let place : 16 * q + 16 ≡ 16 * length (qs ++ q ∷ []) = omega (arith, both.1, long) in
-    stands_at (16 * q + 16) (16 * length (qs ++ q ∷ [])) place (turns h m len (stands_at (16 * n) (16 * q) (omega (arith, both.1)) (so_far both.0)))
 
 -- one of the last sixteen rounds, on the words of the window
 pub last_more : (h m : List ℕ) (x : Work) → length m ≡ 16 → Stands h m 48 x → (j : ℕ) → j < 16 → (s r : List ℕ) (k : ℕ)
@@ -122,3 +98,6 @@ last_more h m x len st j lt s r k was constant turned =
 
 pub stands_none : (h m : List ℕ) (x : Work) → x.vars ≡ h → x.window ≡ m → Stands h m 0 x
 stands_none h m x vs ws = record { vars = vs ∙ sym (rounds-none h (schedule m 48)); window = ws ∙ sym (schedule-none m) }
+
+pub stands_at : {h m : List ℕ} {x : Work} (i j : ℕ) → i ≡ j → Stands h m i x → Stands h m j x
+stands_at {h} {m} {x} i j e st = subst (λ (t : ℕ). Stands h m t x) e st

@@ -5,19 +5,17 @@ ghost use Rattle.digest.specs.Sha256.{length_bytes};
 
 use octets::put;
 
-// Writes a one bit behind the first bytes, and zeros to the end.
-pub fn mark(bytes: &mut [u8], at: usize)
-    requires { at < length bytes.old }
-    ensures { bytes.new ≡ take at bytes.old ++ (0x80 ∷ replicate (length bytes.old - at - 1) 0) }
+// Writes a one bit behind the first bytes of a block, and zeros to its end.
+pub fn mark(block: &mut [u8; 64], at: usize)
+    requires { at < 64 }
+    ensures { block.new ≡ take at block.old ++ (0x80 ∷ replicate (63 - at) 0) }
 {
-    let end = bytes.len();
-    bytes[at] = 0x80;
-    bytes[at + 1..end].fill(0);
+    block[at] = 0x80;
+    block[at + 1..64].fill(0);
 }
 
 // Writes a number of 64 bits into the last eight bytes of a block, the high byte first.
-pub fn write_length(block: &mut [u8], bits: u64)
-    requires { length block.old ≡ 64 }
+pub fn write_length(block: &mut [u8; 64], bits: u64)
     ensures { block.new ≡ take 56 block.old ++ length_bytes bits }
 {
     put(block, 56, &bits.to_be_bytes());

@@ -13,14 +13,6 @@ const MOST: usize = 255 * 32;
 #[derive(Clone, Copy, PartialEq, Eq, Debug)]
 pub struct TooLong;
 
-// The number of a block, counted from 1.
-fn number_of(i: usize) -> u8
-    requires { i < 255 }
-    ensures { result ≡ i + 1 }
-{
-    (i + 1) as u8
-}
-
 // The next block of the expansion, from the one before it and its number.
 fn next_block(start: &Mac, before: &[u8], info: &[u8], number: u8) -> [u8; 32]
     ensures { (k : List ℕ) → Macs start.now k [] → result ≡ hmac_sha_256 k (before.now ++ info.now ++ number ∷ []) }
@@ -40,9 +32,11 @@ fn expand_key(key: &[u8], info: &[u8], out: &mut [u8])
     start.begin(key);
     let mut block = [0u8; 32];
     let len = out.len();
-    for i in 0..(len + 31) / 32 {
+    for i in 0..len.div_ceil(32) {
         let before = (32 * i).min(32);
-        let next = next_block(&start, &block[0..before], info, number_of(i));
+        // counted from 1
+        let number = (i + 1) as u8;
+        let next = next_block(&start, &block[0..before], info, number);
         block = next;
         let size = (len - 32 * i).min(32);
         put(out, 32 * i, &block[0..size]);

@@ -46,9 +46,9 @@ impl Mac {
             let mut digest = sha256(key);
             self.begin_short(&digest);
             digest.fill(0);
-            return;
+        } else {
+            self.begin_short(key);
         }
-        self.begin_short(key);
     }
 
     // Takes in the next part of the message.
@@ -75,8 +75,7 @@ impl Mac {
         ensures inner { self.new.inner ≡ fresh }
         ensures outer { self.new.outer ≡ fresh }
     {
-        self.inner = Hasher::new();
-        self.outer = Hasher::new();
+        *self = Mac::blank();
     }
 }
 
@@ -84,9 +83,7 @@ impl Mac {
 pub fn hmac(key: &[u8], message: &[u8]) -> [u8; 32]
     ensures { result ≡ hmac_sha_256 key.now message.now }
 {
-    let mut mac = Mac::blank();
-    mac.begin(key);
-    mac.finish(message)
+    hmac_parts(key, &[], message)
 }
 
 // The HMAC of a message in two parts.

@@ -1,0 +1,17 @@
+// Overwriting of what was secret.
+//
+// A compiler leaves out writes that nothing reads. So one place of what was overwritten is read back, which place the
+// compiler cannot know, and the caller works it into a result: that is right only if it is what was written there.
+ghost use Rattle.std.specs.Prelude.{◌≡◌, ◌<◌, length, replicate};
+
+// Overwrites each place with one value, and answers what stands at one of them.
+pub fn wipe<T: Copy>(items: &mut [T], blank: T, place: usize) -> T
+    requires { 0 < length items.old }
+    ensures written { items.new ≡ replicate (length items.old) blank }
+    ensures read { result ≡ blank }
+{
+    for item in items.iter_mut() {
+        *item = blank;
+    }
+    items[place % items.len()]
+}

@@ -1,9 +1,9 @@
 -- A step that nothing refuses comes to the side after it.
-use Rattle.std.proofs.Common.{◌≡◌, ℕ, ◌+◌, ◌^◌, ◌<◌, ◌≤◌, Bool, true, false, ◌&&◌, length, refl, ◌∙◌}
+use Rattle.std.proofs.Common.{◌≡◌, ℕ, ◌+◌, ◌^◌, ◌<◌, ◌≤◌, Bool, true, false, cond, ◌&&◌, length, refl, ◌∙◌}
 use Rattle.std.proofs.lemmas.Bool.{cond-true, cond-false, le-leb, lt-ltb, and_from}
 use Rattle.ratchet.specs.declared.types.Message.{Message}
 use Rattle.ratchet.specs.State.{State, has}
-use Rattle.ratchet.specs.Steps.{kept, checked, passed, left, short, room_for, advanced, recalled, turned, take_in_turn, take_recalled, take_new, take, in_turn}
+use Rattle.ratchet.specs.Steps.{kept, checked, passed, left, short, room_for, advanced, recalled, turned, take_in_turn, take_recalled, take_new, take, in_turn, is_new, refused}
 
 checked-kept : (w o f : Bool) (s : State) → w ≡ true → o ≡ true → f ≡ true → checked w o f s ≡ kept s
 checked-kept w o f s p q r = rw (p, q, r)
@@ -29,3 +29,6 @@ module _ (opens : Bool) (s : State) (m : Message) (o : opens ≡ true) where
 
 pub take-recalled : (opens : Bool) (s : State) (m : Message) → in_turn s m ≡ false → has m.mark s.skipped ≡ true → take opens s m ≡ take_recalled opens s m
 take-recalled opens s m turn found = cond-false (in_turn s m) _ _ turn ∙ cond-true (has m.mark s.skipped) _ _ found
+
+pub take-elsewhere : (opens : Bool) (s : State) (m : Message) → in_turn s m ≡ false → has m.mark s.skipped ≡ false → take opens s m ≡ cond (is_new s m) (take_new opens s m) (refused 3)
+take-elsewhere opens s m turn none = cond-false (in_turn s m) _ _ turn ∙ cond-false (has m.mark s.skipped) _ _ none

@@ -1,3 +1,5 @@
 pub mod Finds
-mod Slots
+pub mod Sought
+pub mod TakenOut
+mod Put
 mod Kept

@@ -1,18 +1,21 @@
 -- What the answers of the calls mean: each case's number and values.
 -- Assumes nothing.
-use Rattle.std.specs.Prelude.{◌≡◌}
+use Rattle.std.specs.Prelude.{◌≡◌, Result, Ok, Err}
 use Rattle.ratchet.specs.declared.sides.Side.{Side}
-use Rattle.ratchet.specs.declared.steps.Sent.{Sent}
-use Rattle.ratchet.specs.declared.steps.Sent.TheVariants as sent
 use Rattle.ratchet.specs.declared.steps.Taken.{Taken}
 use Rattle.ratchet.specs.declared.steps.Taken.TheVariants as taken
+use Rattle.ratchet.specs.declared.types.Message.{Message}
+use Rattle.ratchet.specs.declared.types.Refused.{Refused}
 use Rattle.ratchet.specs.Numbers.{number}
 use Rattle.ratchet.specs.State.{state_of}
 use Rattle.ratchet.specs.Steps.{Answer, kept, refused, message}
 
+abbrev pub Sent : Type 0
+Sent = Result (Side × Message) (Refused Side)
+
 abbrev pub sent_answer : Sent → Answer
-sent_answer (sent.Sealed s m) = kept (state_of s)
-sent_answer (sent.Refused s why) = refused (number why)
+sent_answer (Ok done) = kept (state_of done.0)
+sent_answer (Err e) = refused (number e.why)
 
 abbrev pub taken_answer : Taken → Answer
 taken_answer (taken.Opened s) = kept (state_of s)
@@ -20,8 +23,8 @@ taken_answer (taken.Refused s why) = refused (number why)
 
 -- what else is handed back: the message, the next of the side as it was; refused, the very side
 abbrev pub SentBy : Side → Sent → Type 0
-SentBy s (sent.Sealed t m) = m ≡ message (state_of s)
-SentBy s (sent.Refused t why) = t ≡ s
+SentBy s (Ok done) = done.1 ≡ message (state_of s)
+SentBy s (Err e) = e.side ≡ s
 
 abbrev pub TakenBy : Side → Taken → Type 0
 TakenBy s (taken.Opened t) = Unit {0}

@@ -1,14 +1,14 @@
 // The steps of a side: it is passed by value and handed back, after the step or as it was.
-ghost use Rattle.std.specs.Prelude.{◌≡◌, ◌+◌, ◌-◌, ◌<◌, ◌≤◌, true, ◌++◌, length, take as firsts};
+ghost use Rattle.std.specs.Prelude.{◌≡◌, ◌+◌, ◌-◌, ◌<◌, ◌≤◌, true, ◌++◌, length, take as firsts, Err};
 ghost use Rattle.std.proofs.Math.Seq.{paste};
 ghost use Rattle.std.specs.List.{remove};
 ghost use Rattle.ratchet.specs.State.{state_of, begun, has, without, places};
 ghost use Rattle.ratchet.specs.Steps.{send as sending, in_turn, is_new, left as rests, passed, short, room_for, take_in_turn, take_recalled, take_new, take as taking};
 ghost use Rattle.ratchet.specs.Answers.{sent_answer, taken_answer, SentBy, TakenBy};
 
-use crate::marks;
 use crate::sides::{BLANK, ROOM, Side};
-use crate::types::{Mark, Message, Refusal};
+use crate::slots;
+use crate::types::{Mark, Message, Refusal, Refused};
 
 // The longest text, in bytes.
 pub const LONGEST_TEXT: usize = 1000;
@@ -16,16 +16,7 @@ pub const LONGEST_TEXT: usize = 1000;
 // The most places of one link that a message may pass over.
 pub const LONGEST_SKIP: u32 = 256;
 
-// What sending comes to.
-#[derive(Clone, Copy)]
-pub enum Sent {
-    // the side after it, and the message
-    Sealed(Side, Message),
-    // the side as it was
-    Refused(Side, Refusal),
-}
-
-// What taking a message comes to.
+// What taking a message comes to: this form is asked for, and not a Result.
 #[derive(Clone, Copy)]
 pub enum Taken {
     // the side after it
@@ -62,29 +53,35 @@ pub fn second_side() -> Side
     fresh(0)
 }
 
-// Sends a text of so many bytes.
-pub fn send(side: Side, text_length: usize) -> Sent
+// The side as it was, with why nothing was sent.
+fn refused(side: Side, why: Refusal) -> Result<(Side, Message), Refused<Side>>
+    ensures { result ≡ Err (record { side = side; why = why }) }
+{
+    Err(Refused { side, why })
+}
+
+// Sends a text of so many bytes: the side after it, and the message.
+pub fn send(side: Side, text_length: usize) -> Result<(Side, Message), Refused<Side>>
     ensures answer { sent_answer result ≡ sending text_length (state_of side) }
     ensures values { SentBy side result }
 {
     if text_length > LONGEST_TEXT {
-        return Sent::Refused(side, Refusal::Malformed);
+        return refused(side, Refusal::Malformed);
     }
     if side.drawn == 0 {
-        return Sent::Refused(side, Refusal::NoLink);
+        return refused(side, Refusal::NoLink);
     }
     if side.sent == u32::MAX {
-        return Sent::Refused(side, Refusal::Exhausted);
+        return refused(side, Refusal::Exhausted);
     }
     let mark = Mark {
         link: side.drawn - 1,
         place: side.sent,
     };
     let before = side.before;
-    let message = Message { mark, before };
     let mut next = side;
     next.sent = side.sent + 1;
-    Sent::Sealed(next, message)
+    Ok((next, Message { mark, before }))
 }
 
 // Takes a message on the link taken on, at the next place or after: the places passed over are put aside.
@@ -104,8 +101,8 @@ fn take_in_turn(side: Side, message: Message, opens: bool) -> Taken
     if place == u32::MAX {
         return Taken::Refused(side, Refusal::Exhausted);
     }
-    let mut slots = side.marks;
-    marks::put(&mut slots, side.count, message.mark.link, side.taken, place);
+    let mut marks = side.marks;
+    slots::put(&mut marks, side.count, message.mark.link, side.taken, place);
     let count = side.count + passed as usize;
     Taken::Opened(Side {
         drawn: side.drawn,
@@ -113,7 +110,7 @@ fn take_in_turn(side: Side, message: Message, opens: bool) -> Taken
         taken: place + 1,
         before: side.before,
         count,
-        marks: slots,
+        marks,
     })
 }
 
@@ -127,27 +124,17 @@ fn take_recalled(side: Side, message: Message, i: usize, opens: bool) -> Taken
     if !opens {
         return Taken::Refused(side, Refusal::NotOpened);
     }
-    let mut slots = side.marks;
+    let mut marks = side.marks;
     let count = side.count;
-    marks::remove(&mut slots[0..count], i);
+    slots::take_out(&mut marks[0..count], i, BLANK);
     Taken::Opened(Side {
         drawn: side.drawn,
         sent: side.sent,
         taken: side.taken,
         before: side.before,
         count: count - 1,
-        marks: slots,
+        marks,
     })
-}
-
-// How many places are left on the old link when the other says how many it sent on it.
-fn left_over(side: Side, message: Message) -> u32
-    ensures { result ≡ rests (state_of side) message }
-{
-    if side.drawn < 2 {
-        return 0;
-    }
-    message.before.saturating_sub(side.taken)
 }
 
 // The slots with what is left of the old link and what the new one passes over behind the marks of the side.
@@ -156,26 +143,26 @@ fn with_new_link(side: Side, message: Message, left: u32) -> [Mark; 512]
     requires counted { left ≡ rests (state_of side) message }
     ensures { result ≡ paste side.marks side.count (places (side.drawn - 2) side.taken left ++ places message.mark.link 0 message.mark.place) (left + message.mark.place) }
 {
-    let mut slots = side.marks;
+    let mut marks = side.marks;
     let count = side.count;
     let link = message.mark.link;
     if left > 0 {
-        marks::put(
-            &mut slots,
+        slots::put(
+            &mut marks,
             count,
             side.drawn - 2,
             side.taken,
             message.before,
         );
     }
-    marks::put(
-        &mut slots,
+    slots::put(
+        &mut marks,
         count + left as usize,
         link,
         0,
         message.mark.place,
     );
-    slots
+    marks
 }
 
 // Takes the first message of a new link that comes: the side draws its next key at once.
@@ -185,7 +172,7 @@ fn take_new(side: Side, message: Message, opens: bool) -> Taken
     ensures values { TakenBy side result }
 {
     let place = message.mark.place;
-    let left = left_over(side, message);
+    let left = side.left_over(message);
     if left > LONGEST_SKIP
         || place > LONGEST_SKIP
         || side.count + left as usize + place as usize > ROOM
@@ -198,7 +185,7 @@ fn take_new(side: Side, message: Message, opens: bool) -> Taken
     if side.drawn > u32::MAX - 2 {
         return Taken::Refused(side, Refusal::Exhausted);
     }
-    let slots = with_new_link(side, message, left);
+    let marks = with_new_link(side, message, left);
     let count = side.count + left as usize + place as usize;
     Taken::Opened(Side {
         drawn: side.drawn + 2,
@@ -206,15 +193,8 @@ fn take_new(side: Side, message: Message, opens: bool) -> Taken
         taken: place + 1,
         before: side.sent,
         count,
-        marks: slots,
+        marks,
     })
-}
-
-// Is the message on the link that the side takes on, two below its last key, at the next place or after.
-fn in_turn(side: Side, message: Message) -> bool
-    ensures { result ≡ in_turn (state_of side) message }
-{
-    side.drawn >= 2 && message.mark.link == side.drawn - 2 && side.taken <= message.mark.place
 }
 
 // Takes a message; `opens` says whether its text opens with its key.
@@ -222,12 +202,10 @@ pub fn take(side: Side, message: Message, opens: bool) -> Taken
     ensures answer { taken_answer result ≡ taking opens (state_of side) message }
     ensures values { TakenBy side result }
 {
-    if in_turn(side, message) {
+    if side.is_in_turn(message) {
         return take_in_turn(side, message, opens);
     }
-    let slots = side.marks;
-    let count = side.count;
-    match marks::position(&slots[0..count], message.mark) {
+    match side.slot_of(message.mark) {
         Some(i) => take_recalled(side, message, i, opens),
         None => {
             if message.mark.link == side.drawn {

@@ -1,43 +1,37 @@
 // The words of the protocol: which message, and why a step is refused.
-ghost use Rattle.std.specs.Prelude.{◌≡◌};
+ghost use Rattle.std.specs.Prelude.{◌≡◌, ◌∷◌, ◌++◌, Some, decimal};
 ghost use Rattle.ratchet.specs.Numbers.{number};
-ghost use Rattle.ratchet.specs.Same.{same_mark, same_message};
+
+use std::fmt;
 
 // Which message. A link is a run of messages that one side sends until the other answers;
 // links are numbered from 0, and a message's place counts from 0 on its link.
-#[derive(Clone, Copy)]
+#[derive(Clone, Copy, Debug, PartialEq, Eq, PartialOrd, Ord)]
 pub struct Mark {
     pub link: u32,
     pub place: u32,
 }
 
-impl Mark {
-    // Is it the mark of the same message.
-    pub fn is(self, other: Mark) -> bool
-        ensures { result ≡ same_mark self other }
-    {
-        self.link == other.link && self.place == other.place
+// LINK/PLACE
+impl fmt::Display for Mark {
+    ghost output = { λ m. Some (decimal m.link ++ 47 ∷ decimal m.place) };
+
+    fn fmt<W: fmt::Write>(&self, f: &mut fmt::Formatter<W>) -> fmt::Result {
+        let link = self.link;
+        let place = self.place;
+        write!(f, "{link}/{place}")
     }
 }
 
 // A message by what its header says: which it is, and how many its sender sent on its link before.
-#[derive(Clone, Copy)]
+#[derive(Clone, Copy, Debug, PartialEq, Eq)]
 pub struct Message {
     pub mark: Mark,
     pub before: u32,
 }
 
-impl Message {
-    // Is it the same message.
-    pub fn is(self, other: Message) -> bool
-        ensures { result ≡ same_message self other }
-    {
-        self.mark.is(other.mark) && self.before == other.before
-    }
-}
-
 // Why a step is refused; the number of each is what programs print.
-#[derive(Clone, Copy)]
+#[derive(Clone, Copy, Debug, PartialEq, Eq, Hash)]
 pub enum Refusal {
     // 1: a text above 1,000 bytes, or bytes that are no message
     Malformed,
@@ -53,12 +47,12 @@ pub enum Refusal {
     Exhausted,
 }
 
-impl Refusal {
-    // The number that programs print.
-    pub fn number(self) -> u8
-        ensures { result ≡ number self }
-    {
-        match self {
+// The number that programs print.
+impl From<Refusal> for u8 {
+    ghost from_gives = { λ why n. n ≡ number why };
+
+    fn from(why: Refusal) -> u8 {
+        match why {
             Refusal::Malformed => 1,
             Refusal::NoLink => 2,
             Refusal::Unknown => 3,
@@ -67,4 +61,20 @@ impl Refusal {
             Refusal::Exhausted => 6,
         }
     }
+}
+
+impl fmt::Display for Refusal {
+    ghost output = { λ why. Some (decimal (number why)) };
+
+    fn fmt<W: fmt::Write>(&self, f: &mut fmt::Formatter<W>) -> fmt::Result {
+        let number = u8::from(*self);
+        write!(f, "{number}")
+    }
+}
+
+// What a call answers that keeps nothing: the side as it was, and why.
+#[derive(Drop)]
+pub struct Refused<S> {
+    pub side: S,
+    pub why: Refusal,
 }

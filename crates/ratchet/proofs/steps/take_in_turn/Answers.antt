@@ -2,7 +2,7 @@ use Rattle.std.proofs.Common.{◌≡◌, ◌-◌, length, refl, arith, rules}
 use Rattle.std.proofs.lemmas.List.{length-take-le}
 use Rattle.ratchet.specs.Blank.{blank}
 use Rattle.ratchet.specs.State.{places, state_of}
-use Rattle.ratchet.proofs.Slots.{length-places, grown_front, grown_rest}
+use Rattle.ratchet.proofs.Put.{length-places, grown_front, grown_rest}
 use Rattle.ratchet.proofs.Kept.{kept_in_turn}
 use Rattle.ratchet.proofs.steps.take_in_turn.Goals as goal
 

@@ -2,7 +2,7 @@ use Rattle.std.proofs.Common.{◌≡◌, ◌+◌, ◌-◌, ◌++◌, length, tak
 use Rattle.std.proofs.lemmas.List.{length-take-le}
 use Rattle.ratchet.specs.Blank.{blank}
 use Rattle.ratchet.specs.State.{places, state_of}
-use Rattle.ratchet.proofs.Slots.{length_both, grown_front, grown_rest}
+use Rattle.ratchet.proofs.Put.{length_both, grown_front, grown_rest}
 use Rattle.ratchet.proofs.Kept.{kept_new}
 use Rattle.ratchet.proofs.steps.take_new.Goals as goal
 
@@ -17,7 +17,7 @@ invariant_of-result c =
       few = omega arith;
       rest =
           grown_rest side.marks _ new side.count (left + m.place) _ (omega arith) (length_both (side.drawn - 2) side.taken left m.link 0 m.place)
-          c.with_new_link-slots.ensures (add_assoc side.count left m.place) blank 512 side.rest;
+          c.with_new_link-marks.ensures (add_assoc side.count left m.place) blank 512 side.rest;
     }
 
 pub returns : goal.returns
@@ -30,7 +30,7 @@ returns c =
     let new = places m.link 0 m.place in
     let held = length-take-le side.count side.marks (omega arith) in
     let front = grown_front side.marks _ (old ++ new) side.count (left + m.place) _ (omega arith) (length_both (side.drawn - 2) side.taken left m.link 0 m.place)
-    c.with_new_link-slots.ensures (add_assoc side.count left m.place) in
+    c.with_new_link-marks.ensures (add_assoc side.count left m.place) in
     let split = append_assoc (take side.count side.marks) old new in
     let over = c.left_over-left.ensures in
     record { answer = kept_new c.args.opens (state_of side) c.args.message c.if-not-opens.false side.count held (omega (arith, over)) (omega arith) (omega (arith, over)) (omega arith) _ (cc); values = tt }

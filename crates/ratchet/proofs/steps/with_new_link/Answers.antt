@@ -3,7 +3,7 @@ use Rattle.std.proofs.lemmas.Bool.Decides.{nat_tests}
 use lib.Seq.{paste}
 use Rattle.ratchet.specs.declared.types.Mark.{Mark}
 use Rattle.ratchet.specs.State.{places}
-use Rattle.ratchet.proofs.Slots.{length-places, put_both, put_none}
+use Rattle.ratchet.proofs.Put.{length-places, put_both, put_none}
 use Rattle.ratchet.proofs.steps.with_new_link.Goals as goal
 use Rattle.ratchet.proofs.steps.with_new_link.Goals.{then-left-gt0, else-left-gt0}
 
@@ -23,8 +23,8 @@ returns c =
       | then-left-gt0 w ↦
           let n : m.before - side.taken ≡ left = grind (arith, nat_tests, c.requires.counted) in
           let first = w.put.ensures in
-          both c.if-left-gt0.slots (cc) (cc)
+          both c.if-left-gt0.marks (cc) (cc)
       | else-left-gt0 w ↦
           let none = put_none side.marks side.count (side.drawn - 2) side.taken left (omega arith) in
-          both c.if-left-gt0.slots (cc) (cc)
+          both c.if-left-gt0.marks (cc) (cc)
     ]

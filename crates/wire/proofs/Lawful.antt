@@ -87,6 +87,22 @@ lawful b fit (other w e p) = record {
 pub reads : (b : List ℕ) → ((i : ℕ) → get_or b i 0 < 256) → (r : Result Header Refusal) → r ≡ reading b → Reads b r
 reads b fit r e = subst (Reads b) (sym e) (lawful b (All-from_get_or (λ x. x < 256) b 0 (λ i h. fit i)) (either b))
 
+-- ### In the exchange's words
+
+pub was_read : (b : List ℕ) (h : Header) → Ok h ≡ reading b → (exchange.read_message b ≡ Some (parts_of h b)) × (63 ≤ length b) × (length b ≤ 1063)
+was_read b h e = elim (either b) [
+  | whole w r p ↦
+      let same : header_of b ≡ h = cc in
+      (p ∙ ap (λ (x : Header). Some (parts_of x b)) same, omega (arith, w.size), omega (arith, w.size, w.short))
+  | other w r p ↦ absurd (let z : ◌≡◌ {A = ℕ} 0 1 = cc in omega arith)
+]
+
+pub not_read : (b : List ℕ) (why : Refusal) → Err why ≡ reading b → (exchange.read_message b ≡ None) × (why ≡ Malformed)
+not_read b why e = elim (either b) [
+  | whole w r p ↦ absurd (let z : ◌≡◌ {A = ℕ} 0 1 = cc in omega arith)
+  | other w r p ↦ (p, let same : why ≡ Malformed = cc in same)
+]
+
 -- ### Writing
 
 -- what stands up to the end of a part that was put

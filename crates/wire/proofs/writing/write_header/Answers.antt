@@ -5,14 +5,16 @@ use Rattle.wire.specs.Laws.{Writable}
 use Rattle.wire.proofs.Lawful.{put_together, back}
 use Rattle.wire.proofs.writing.write_header.Goals as goal
 
-pub returns : goal.returns
-returns c =
-    let w : Writable c.args.header.now = record { link = omega arith; place = omega arith; before = omega arith; half = omega arith; text = omega arith } in
-    let all : c.put-6.new.items ≡ header_bytes c.args.header.now =
-    put_together c.args.header.now w.half (replicate 47 0)
+pub returns-clause-bytes : goal.returns-clause-bytes
+returns-clause-bytes c =
+    put_together c.args.header.now (omega arith) (replicate 47 0)
     c.put.new.items c.put-2.new.items c.put-3.new.items c.put-4.new.items c.put-5.new.items c.put-6.new.items
     c.to_be_bytes.result c.to_be_bytes-2.result c.to_be_bytes-3.result c.to_be_bytes-4.result
     c.to_be_bytes.ensures c.to_be_bytes-2.ensures c.to_be_bytes-3.ensures c.to_be_bytes-4.ensures
     (omega arith) (omega arith) (omega arith) (omega arith) (omega arith) (omega arith)
-    c.put.ensures c.put-2.ensures c.put-3.ensures c.put-4.ensures c.put-5.ensures c.put-6.ensures in
-    record { bytes = all; back = λ behind long short. ap (λ (x : List ℕ). reading (x ++ behind)) all ∙ back c.args.header.now behind w long short }
+    c.put.ensures c.put-2.ensures c.put-3.ensures c.put-4.ensures c.put-5.ensures c.put-6.ensures
+
+pub returns-clause-back : goal.returns-clause-back
+returns-clause-back c =
+    let w : Writable c.args.header.now = record { link = omega arith; place = omega arith; before = omega arith; half = omega arith; text = omega arith } in
+    λ behind long short. ap (λ (x : List ℕ). reading (x ++ behind)) (returns-clause-bytes c) ∙ back c.args.header.now behind w long short

@@ -19,7 +19,7 @@ use Rattle.session.specs.declared.incoming.Incoming.{Incoming}
 use Rattle.session.specs.Ours.{AnyBox, ours, draw_of}
 use Rattle.session.specs.Views.{held_of}
 use Rattle.session.specs.Takes.{parts_of, Opens, Stays, Stepped}
-use Rattle.session.specs.Renews.{Opening, stayed, drew, Taking, Answers, Leaves, Fronts, Short}
+use Rattle.session.specs.Renews.{stayed, drew, Taking, Answers, Leaves, Fronts, Short}
 
 -- the tests in their order
 module _ (o : Outside) (own : Draw) (h : Held) (p : Parts) (fresh : Option Draw) where

@@ -12,3 +12,4 @@ mod NewLinks
 mod Dispatch
 mod Beginnings
 mod Kept
+mod Copies

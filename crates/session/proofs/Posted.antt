@@ -1,5 +1,5 @@
 -- The step of sending, on what a session holds.
-use Rattle.std.proofs.Common.{◌≡◌, ℕ, ◌+◌, ◌≤◌, Bool, true, false, cond, eqb, ltb, List, ◌++◌, map, length, take, Option, sym, ap, arith}
+use Rattle.std.proofs.Common.{◌≡◌, ℕ, ◌+◌, ◌≤◌, Bool, true, false, cond, eqb, ltb, List, ◌++◌, map, length, take, sym, ap, arith}
 use Rattle.std.proofs.lemmas.List.{length-take-le}
 use Rattle.seal.specs.declared.keys.MessageKey.{MessageKey}
 use Rattle.seal.specs.Sealing.{sealed}
@@ -10,7 +10,6 @@ use Rattle.wire.specs.declared.header.Header.{Header}
 use Rattle.wire.specs.Layout as wire
 use Rattle.keybox.specs.Box.{Scheme}
 use Rattle.exchange.specs.Outside.{seal}
-use Rattle.exchange.specs.Wire.{header_bytes}
 use Rattle.exchange.specs.Held.{Held}
 use Rattle.exchange.specs.Exchanges.{send_text, send_as, sent_on, sent, message_bytes}
 use Rattle.session.specs.declared.sessions.Session.{Session}

@@ -1,5 +1,5 @@
 -- The part that was walked holds the keys along the chain.
-use Rattle.std.proofs.Common.{◌∙◌, arith}
+use Rattle.std.proofs.Common.{arith}
 use Rattle.std.proofs.lemmas.Slice.{drop-put_mid}
 use Rattle.session.proofs.Slots.{keys_put}
 use Rattle.session.proofs.along.put_along.Goals as goal

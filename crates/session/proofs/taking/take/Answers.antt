@@ -1,5 +1,5 @@
 -- By how the bytes are read, and then by what the step comes to.
-use Rattle.std.proofs.Common.{ℕ, Option, sym, refl, ap, ◌∙◌}
+use Rattle.std.proofs.Common.{Option, sym, refl, ap, ◌∙◌}
 use Rattle.ratchet.specs.Numbers.{number}
 use Rattle.ratchet.specs.declared.types.Refusal.{Refusal}
 use Rattle.exchange.specs.Wire.{Parts}

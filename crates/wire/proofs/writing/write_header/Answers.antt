@@ -1,6 +1,6 @@
 -- The six parts make the header, and it is read back.
-use Rattle.std.proofs.Common.{◌≡◌, ℕ, List, ◌++◌, replicate, ap, ◌∙◌, arith}
-use Rattle.wire.specs.Layout.{header_bytes, reading}
+use Rattle.std.proofs.Common.{ℕ, List, ◌++◌, replicate, ap, ◌∙◌, arith}
+use Rattle.wire.specs.Layout.{reading}
 use Rattle.wire.specs.Laws.{Writable}
 use Rattle.wire.proofs.Lawful.{put_together, back}
 use Rattle.wire.proofs.writing.write_header.Goals as goal

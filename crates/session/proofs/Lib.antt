@@ -12,4 +12,4 @@ mod NewLinks
 mod Dispatch
 mod Beginnings
 mod Kept
-mod Copies
+pub mod Copies

@@ -6,8 +6,5 @@ use script::rehearsal::View;
 use std::process::ExitCode;
 
 fn main(rt: HostRuntime) -> ExitCode {
-    match program(&rt, "open", View::Openness) {
-        Ok(()) => ExitCode::SUCCESS,
-        Err(()) => ExitCode::FAILURE,
-    }
+    program(&rt, "open", View::Openness)
 }

@@ -6,8 +6,5 @@ use script::rehearsal::View;
 use std::process::ExitCode;
 
 fn main(rt: HostRuntime) -> ExitCode {
-    match program(&rt, "rehearse", View::Sides) {
-        Ok(()) => ExitCode::SUCCESS,
-        Err(()) => ExitCode::FAILURE,
-    }
+    program(&rt, "rehearse", View::Sides)
 }

@@ -32,6 +32,7 @@ fn expand_key(key: &[u8], info: &[u8], out: &mut [u8])
     start.begin(key);
     let mut block = [0u8; 32];
     let len = out.len();
+    // A count of blocks, since of what is written through chunks_mut a proof learns nothing.
     for i in 0..len.div_ceil(32) {
         let before = (32 * i).min(32);
         // counted from 1

@@ -16,7 +16,7 @@ pub const TAG_SIZE: usize = 16;
 const FIRST: u32 = 1;
 
 // Why a text was not sealed.
-#[derive(Clone, Copy)]
+#[derive(Clone, Copy, PartialEq, Eq, Debug)]
 pub enum SealError {
     // The stream is shorter than the text.
     TooLong,
@@ -25,7 +25,7 @@ pub enum SealError {
 }
 
 // Why nothing was opened.
-#[derive(Clone, Copy)]
+#[derive(Clone, Copy, PartialEq, Eq, Debug)]
 pub enum OpenError {
     // The stream is shorter than the text.
     TooLong,

@@ -3,7 +3,8 @@
 
 use notation::faults::Fault;
 use script::rehearsal;
-use script::rehearsal::{BadScript, View};
+use script::rehearsal::BadScript;
+use script::view::View;
 use stage::player::Player;
 use std::io::{Read, Write};
 use std::process::ExitCode;
@@ -57,7 +58,7 @@ fn play(view: View, script: &[u8], out: &mut Vec<u8>) -> Result<Result<(), BadSc
     let mut player = Player::new(*out.allocator());
     let ended = rehearsal::play_all(&mut player, view, script, out)?;
     if ended.is_ok() {
-        rehearsal::put_end(&player, view, out)?;
+        view.put_end(&player, out)?;
     }
     Ok(ended)
 }

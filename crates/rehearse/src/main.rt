@@ -2,7 +2,7 @@
 #![tactic(auto)]
 
 use console::program;
-use script::rehearsal::View;
+use script::view::View;
 use std::process::ExitCode;
 
 fn main(rt: HostRuntime) -> ExitCode {

@@ -15,8 +15,8 @@ use Rattle.stage.specs.Players.{world_of, numbered, whole, due_for, DeliveryIs}
 use Rattle.stage.specs.Plan.{up_to}
 use Rattle.script.specs.Played.{Outcome, SendText, LinePlayed}
 use Rattle.script.specs.declared.rehearsal.BadScript.{BadScript}
-use Rattle.script.specs.declared.rehearsal.View.{View}
-use Rattle.script.specs.declared.rehearsal.View.TheVariants.{Sides, Openness}
+use Rattle.script.specs.declared.view.View.{View}
+use Rattle.script.specs.declared.view.View.TheVariants.{Sides, Openness}
 use Rattle.script.specs.Commands.{parsed}
 use Rattle.script.specs.Views.{Viewed}
 use Rattle.script.specs.Whole.{Moved, Lawful, Through, begun, onward, Ended, all_played, bad_line, line_at}

@@ -6,8 +6,8 @@ use Rattle.exposure.specs.Rows.{rows_of}
 use Rattle.stage.specs.declared.player.Letter.{Letter}
 use Rattle.stage.specs.declared.player.Player.{Player}
 use Rattle.stage.specs.Players.{world_of}
-use Rattle.script.specs.declared.rehearsal.View.{View}
-use Rattle.script.specs.declared.rehearsal.View.TheVariants.{Sides, Openness}
+use Rattle.script.specs.declared.view.View.{View}
+use Rattle.script.specs.declared.view.View.TheVariants.{Sides, Openness}
 use Rattle.script.specs.declared.play.Played.TheVariants as played
 use Rattle.script.specs.Commands.{parsed}
 use Rattle.script.specs.Output.{shown, labelled}

@@ -1,11 +1,12 @@
 -- A whole script: it is played line by line, and is a run of which the laws of every run hold.
 -- Assumes nothing.
-use Rattle.std.specs.Prelude.{◌≡◌, ℕ, ◌+◌, ◌<◌, ◌≤◌, min, ◌⊎◌, Ok, Err, Result, List, length, ◌≢◌, slice_index, slice_range}
+use Rattle.std.specs.Str.{bytes_eq}
+use Rattle.std.specs.Prelude.{◌≡◌, ℕ, ◌+◌, ◌-◌, ◌<◌, ◌≤◌, cond, [], ◌∷◌, take, drop, min, ◌⊎◌, Ok, Err, Result, List, length, ◌≢◌, slice_index, slice_range}
 use Rattle.stage.specs.declared.player.Player.{Player}
 use Rattle.script.specs.declared.play.BadLine.{BadLine}
 use Rattle.script.specs.declared.play.Played.{Played}
 use Rattle.script.specs.declared.rehearsal.BadScript.{BadScript}
-use Rattle.script.specs.declared.rehearsal.View.{View}
+use Rattle.script.specs.declared.view.View.{View}
 use Rattle.script.specs.Views.{Turned}
 use Rattle.runs.specs.World.{World, Event, step, run, start}
 use Rattle.runs.specs.Laws.{Laws}
@@ -29,6 +30,10 @@ pub record EndsLine (s : List ℕ) (at end : ℕ) : Type 0 where
 
 abbrev pub line_at : List ℕ → (at end : ℕ) → List ℕ
 line_at s at end = slice_range s at end
+
+-- a line without the newline that ends it, if one does
+abbrev pub without_newline : List ℕ → List ℕ
+without_newline l = cond (bytes_eq (drop (length l - 1) l) (10 ∷ [])) (take (length l - 1) l) l
 
 abbrev pub next_number : ℕ → ℕ
 next_number k = min (k + 1) 18446744073709551615

@@ -1,7 +1,7 @@
 // What a rehearsal prints, line by line.
-ghost use Rattle.std.specs.Prelude.{◌≡◌, [], ◌∷◌, ◌++◌, codes, OnOk};
+ghost use Rattle.std.specs.Prelude.{◌≡◌, ◌++◌, OnOk};
 ghost use Rattle.ratchet.specs.State.{state_of};
-ghost use Rattle.script.specs.Output.{opened_line, name_of, read_line, sending_line, taking_line, text_part, link_text, marks_text, labelled, links_text, side_line};
+ghost use Rattle.script.specs.Output.{opened_line, name_of, read_line, sending_line, taking_line, text_part, link_text, marks_text, links_text, side_line};
 
 use notation::faults::Fault;
 use notation::text::put_text;
@@ -135,13 +135,5 @@ pub fn put_side(out: &mut Vec<u8>, who: Who, side: &Side) -> Result<(), Fault>
     write!(out, "; before {before}; aside")?;
     put_marks(out, side.aside())?;
     out.push(b'\n')?;
-    Ok(())
-}
-
-// `line K`
-pub fn put_line_number(out: &mut Vec<u8>, number: usize) -> Result<(), Fault>
-    ensures { OnOk result (out.new.items ≡ out.old.items ++ (labelled (codes "line ") number ++ 10 ∷ [])) }
-{
-    writeln!(out, "line {number}")?;
     Ok(())
 }

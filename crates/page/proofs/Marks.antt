@@ -1,5 +1,5 @@
 -- Marks in order of link and place.
-use Rattle.std.proofs.Common.{◌≡◌, ℕ, zero, suc, ◌+◌, ◌<◌, ◌≤◌, true, false, List, [], ◌∷◌, ◌++◌, length, get_or, Decides, sym, refl, ap, ◌∙◌, subst, inl, inr, arith, Bool, nat_lt, ◌==◌, ◌||◌, ◌&&◌}
+use Rattle.std.proofs.Common.{◌≡◌, ℕ, zero, suc, ◌+◌, ◌<◌, ◌≤◌, true, false, List, [], ◌∷◌, ◌++◌, length, get_or, Decides, sym, refl, ◌∙◌, subst, inl, inr, arith, Bool, nat_lt, ◌==◌, ◌||◌, ◌&&◌}
 use Rattle.std.specs.List.{AllByRecursion as All, IsAllAdjacentAnswer}
 use Rattle.std.proofs.ByRecursion.{All-get_or, All-weaker, All-append}
 use Rattle.std.proofs.lemmas.Bool.{false≢true, cond_both}
@@ -73,11 +73,6 @@ pub rising-places : (l f n : ℕ) → Rising (places l f n)
 unfolding places
 rising-places l f zero = tt
 rising-places l f (suc n) = (all-places (Below (record { link = l; place = f })) l (f + 1) n (λ p a b. inr (refl, omega arith)), rising-places l (f + 1) n)
-
-pub length-places : (l f n : ℕ) → length (places l f n) ≡ n
-unfolding places
-length-places l f zero = refl
-length-places l f (suc n) = ap suc (length-places l (f + 1) n)
 
 -- one taken out
 pub all_without : (P : Mark → Type 0) (m : Mark) (xs : List Mark) → All P xs → All P (without m xs)

@@ -9,11 +9,11 @@ use Rattle.session.specs.declared.sessions.Session.{Session}
 use Rattle.session.specs.Views.{key_in, held_of}
 use Rattle.page.specs.declared.pages.Page.{Page}
 use Rattle.page.specs.declared.refusal.BadPage.{BadPage}
+use Rattle.page.specs.Kept.{IsBytes}
 use Rattle.page.specs.Layout.{page_bytes}
 use Rattle.page.specs.Valid.{Sound, Valid}
 use Rattle.page.specs.Parts.{keys_in, state_in, held_in, Whole, Says}
 use Rattle.page.specs.Reading.{Reads, Restored, Restoring, PageLaws}
-use Rattle.page.proofs.Numbers.{Bytes}
 use Rattle.page.proofs.Canonical.{page_back, valid_back}
 use Rattle.page.proofs.Written.{page_long, held_read, whole_read}
 
@@ -31,7 +31,7 @@ not_sound who b never = λ h v e.
     let same : held_in b ≡ h = ap held_in e ∙ held_read who h v in
     never (subst (SoundIn who) (sym same) v.sound)
 
-is_page : (who : Who) (b : List ℕ) (h : Held) → Bytes b → Whole b → Sound who (state_in b) (take 32 (drop 81 b)) (take 32 (drop 113 b)) → held_in b ≡ h → Reads who b (Some h)
+is_page : (who : Who) (b : List ℕ) (h : Held) → IsBytes b → Whole b → Sound who (state_in b) (take 32 (drop 81 b)) (take 32 (drop 113 b)) → held_in b ≡ h → Reads who b (Some h)
 is_page who b h fit w sound same =
     (subst (Valid who) same (valid_back b fit w who sound), page_back b fit w ∙ ap page_bytes same)
 
@@ -52,7 +52,7 @@ module _ (who : Who) (b : List ℕ) (page : Page) (same : page.bytes.now ≡ b) 
       (subst (λ (x : State). Sounds x s.sending.0 s.taking.0) (sym e.state)
       (subst (λ (x : List ℕ). Sounds (state_in b) x s.taking.0) (sym e.sending) (subst (λ (x : List ℕ). Sounds (state_in b) (take 32 (drop 81 b)) x) (sym e.taking) sound))))
 
-  pub page_read : (slots : List MessageKey) → Bytes b → Whole b → Sound who (state_of s.side) s.sending.0 s.taking.0 →
+  pub page_read : (slots : List MessageKey) → IsBytes b → Whole b → Sound who (state_of s.side) s.sending.0 s.taking.0 →
       map key_in (take page.count slots) ≡ keys_in page.count (drop 147 page.bytes.now) → drop page.count slots ≡ replicate (512 - page.count) (record { 0 = blank }) → Restored who b s slots
   page_read slots fit whole sound keys rest =
       let e = those in

@@ -37,20 +37,8 @@ cleared_all slots i n e h k so_far =
     let same : i ≡ n = omega arith in
     cc
 
--- the first slots filled, and then the others cleared
-module _ (was front rest : List MessageKey) (n : ℕ) (size : length was ≡ 512) (few : n ≤ 512) (long : length front ≡ n) where
-  abbrev half : List MessageKey
-  half = front ++ drop n was
-
-  length_half : length half ≡ 512
-  length_half = length-append front (drop n was) ∙ omega (arith, length-drop n was)
-
-  whole : length rest ≡ 512 - n → put_mid n (512 - n) half rest ≡ front ++ rest
-  whole e =
-      let first : take n half ≡ front = take_at front (drop n was) n long in
-      let none : drop (512 - n) (drop n half) ≡ [] = drop_all (512 - n) (drop n half) (omega (arith, length-drop n half, length_half)) in
-      let tidy = append-nil rest in
-      cc
-
-  pub restored_front : length rest ≡ 512 - n → take n (put_mid n (512 - n) half rest) ≡ front
-  restored_front e = ap (take n) (whole e) ∙ take_at front rest n long
+-- the first slots filled, whatever is put behind them
+pub restored_front : (was front rest : List MessageKey) (n m : ℕ) → length front ≡ n → take n (put_mid n m (front ++ drop n was) rest) ≡ front
+restored_front was front rest n m long =
+    let first : take n (front ++ drop n was) ≡ front = take_at front (drop n was) n long in
+    take_at (take n (front ++ drop n was)) (rest ++ drop m (drop n (front ++ drop n was))) n (ap length first ∙ long) ∙ first

@@ -68,7 +68,7 @@ fn is_begun(session: &Session) -> bool
     is_untaken(session) && (side.drawn == 1 || is_unsent(session))
 }
 
-// The remainder of the numbers of a side's keys by 2.
+// The remainder of the numbers of a side's keys by 2: the first side's are odd, so that `as` doesn't give it.
 fn parity_of(who: Who) -> u32
     ensures { result ≡ parity_of who }
 {

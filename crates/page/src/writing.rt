@@ -33,6 +33,7 @@ fn put_body(session: &Session, slots: &[MessageKey; 512], out: &mut [u8; 20659])
     let end = FRONT + ENTRY * count;
     put_front(session, out);
     put(out, 145, &(count as u16).to_be_bytes());
+    // the marks as a part of their array, of which the proof knows how long it is: of what `aside` gives it doesn't
     put_aside(
         &session.side.marks[0..count],
         &slots[0..count],

@@ -8,6 +8,7 @@ use Rattle.chain.specs.declared.keys.ChainKey.{ChainKey}
 use Rattle.ratchet.specs.declared.sides.Side.{Side}
 use Rattle.ratchet.specs.State.{State, state_of, places}
 use Rattle.ratchet.specs.Steps as book
+use Rattle.ratchet.proofs.Put.{length-places}
 use Rattle.exchange.specs.Outside.{Outside}
 use Rattle.exchange.specs.Wire.{Parts}
 use Rattle.exchange.specs.Held.{Held, blank}
@@ -19,7 +20,7 @@ use Rattle.session.specs.Ours.{AnyBox, ours}
 use Rattle.session.specs.Views.{held_of, key_in}
 use Rattle.session.specs.Takes.{parts_of, Opens, Stays}
 use Rattle.session.proofs.Chains.{chain_same, chain_next}
-use Rattle.session.proofs.Slots.{length-places, grown_count, still_wiped}
+use Rattle.session.proofs.Slots.{grown_count, still_wiped}
 
 -- a step that is kept has nothing against it
 pub only_kept : (w o f : Bool) (t u : State) → book.kept t ≡ book.checked w o f u → t ≡ u

@@ -1,12 +1,13 @@
 -- A message of a new link, by whether its text opens, what the bookkeeping answers, and the key that the box gives.
-use Rattle.std.proofs.Common.{◌≡◌, ℕ, ◌+◌, ◌-◌, ◌≤◌, true, false, ◌&&◌, List, ◌++◌, map, length, take, drop, replicate, is_some, Some, None, Option, MatchOption, sym, refl, ap, ◌∙◌, append_assoc, arith}
-use Rattle.std.proofs.lemmas.List.{drop-drop, drop-replicate, length-append}
+use Rattle.std.proofs.Common.{◌≡◌, ℕ, ◌+◌, ◌-◌, ◌≤◌, true, false, ◌&&◌, List, ◌++◌, map, length, take, drop, is_some, Some, None, Option, MatchOption, sym, refl, ap, ◌∙◌, subst, append_assoc, arith}
+use Rattle.std.proofs.lemmas.List.{drop-drop, length-append}
 use Rattle.std.proofs.lemmas.Option.{none-some}
 use Rattle.std.proofs.lemmas.Bool.{cond-true, cond-false, le-leb, and_from}
 use Rattle.seal.specs.declared.keys.MessageKey.{MessageKey}
 use Rattle.chain.specs.Bytes as links
 use Rattle.ratchet.specs.State.{State, state_of, has, places}
 use Rattle.ratchet.specs.Steps as book
+use Rattle.ratchet.proofs.Put.{length-places}
 use Rattle.ratchet.specs.declared.sides.Side.{Side}
 use Rattle.wire.specs.declared.header.Header.{Header}
 use Rattle.keybox.specs.Box.{Keys, Scheme}
@@ -27,7 +28,7 @@ use Rattle.session.specs.Renews.{Begins, Turns, Turning, drew, Taking, Leaves}
 use Rattle.session.proofs.Chains.{chain_same, chain_next}
 use Rattle.session.proofs.Draws.{number-draw}
 use Rattle.session.proofs.InTurn.{only_kept}
-use Rattle.session.proofs.Slots.{length-places, grown_count}
+use Rattle.session.proofs.Slots.{grown_count, still_wiped}
 
 module _ (o : Outside) (own : Draw) (fresh : Option Draw) (h : Held) (p : Parts) where
   answered : Option (List ℕ) → exchange.Taken
@@ -61,10 +62,6 @@ module _ (scheme : Scheme) (k : ℕ) (s : Session) (slots : List MessageKey) (m 
 
   pub joint_own : (ours scheme).joint (draw_of k) m.header.half.0 ≡ scheme.joint_of k m.header.half.0
   joint_own = ap (λ (n : ℕ). scheme.joint_of n m.header.half.0) (number-draw k)
-
-  pub text_none : scheme.joint_of k m.header.half.0 ≡ None → exchange.text_new (ours scheme) (draw_of k) (held_of s slots) (parts_of m) ≡ None
-  unfolding under
-  text_none e = ap (λ (y : Option (List ℕ)). exchange.and_then y under) (joint_own ∙ e)
 
   pub text_new_lem : (j chain at key : List ℕ) (x : Option (List ℕ)) → scheme.joint_of k m.header.half.0 ≡ Some j → chain ≡ links.chain_bytes (links.mix_bytes s.root.0 j) →
       at ≡ links.chain_along m.header.message.mark.place chain → key ≡ links.key_bytes at → exchange.text_under (ours scheme) key (parts_of m) ≡ x →
@@ -164,13 +161,10 @@ module _ {B : Type 0} (keys : B → Keys) (scheme : Scheme) (k : ℕ)
           ∙ (ap (λ (h : Option Held). exchange.renew_as (book.kept (state_of side)) (Some (take b.size text)) h) made
           ∙ ap (λ (i : ℕ). exchange.opened (held_of t after) (take i text) true) (sym e));
       short = omega (arith, begins.short);
-      wiped = λ w.
+      wiped =
           let n = left + m.header.message.mark.place in
-          let c = counted in
           let all : s.side.count + n ≡ s.side.count + left + m.header.message.mark.place = omega arith in
-          let m : 512 - s.side.count - n ≡ 512 - t.side.count = omega arith in
-          ap (λ (i : ℕ). drop i after) counted ∙ (T.rest ∙ (ap (λ (i : ℕ). drop i slots) (sym all) ∙ (sym (drop-drop n s.side.count slots)
-          ∙ (ap (λ (l : List MessageKey). drop n l) w ∙ (drop-replicate n (512 - s.side.count) (record { 0 = blank }) ∙ ap (λ (i : ℕ). replicate i (record { 0 = blank })) m)))));
+          still_wiped slots after s.side.count n t.side.count (record { 0 = blank }) 512 (counted ∙ sym all) (subst (λ (i : ℕ). drop i after ≡ drop i slots) (sym all) T.rest);
     }
 
   pub turned : (r : Taken) → Turning keys scheme s side b m.header left slots after box box' r →

@@ -1,22 +1,16 @@
 -- Keys in the slots of a session, as lists.
-use Rattle.std.proofs.Common.{◌≡◌, ℕ, zero, suc, ◌+◌, ◌-◌, ◌≤◌, List, ◌++◌, map, length, take, drop, replicate, sym, refl, ap, ◌∙◌, arith}
+use Rattle.std.proofs.Common.{◌≡◌, ℕ, ◌+◌, ◌-◌, ◌≤◌, List, ◌++◌, map, length, take, drop, replicate, sym, ap, ◌∙◌, arith}
 use borrow.Rule.Slice.PartMut.{put_mid}
 use Rattle.std.proofs.lemmas.List.{drop-drop, drop-replicate, length-append, length-drop, length-take-le, map-append}
 use Rattle.std.proofs.lemmas.Slice.{take-put_mid}
 use Rattle.seal.specs.declared.keys.MessageKey.{MessageKey}
 use Rattle.chain.specs.Bytes as links
 use Rattle.ratchet.specs.declared.types.Mark.{Mark}
-use Rattle.ratchet.specs.State.{places}
 use Rattle.keybox.specs.Box.{Scheme}
 use Rattle.exchange.specs.Exchanges as exchange
 use Rattle.session.specs.Ours.{ours}
 use Rattle.session.specs.Views.{key_in}
 use Rattle.session.proofs.Chains.{keys_same}
-
-pub length-places : (l f n : ℕ) → length (places l f n) ≡ n
-unfolding places
-length-places l f zero = refl
-length-places l f (suc n) = ap suc (length-places l (f + 1) n)
 
 -- as many marks more, as many more in use
 pub grown_count : (xs ys new : List Mark) (m n k : ℕ) → length xs ≡ 512 → length ys ≡ 512 → m ≤ 512 → n ≤ 512 → length new ≡ k → take n ys ≡ take m xs ++ new → n ≡ m + k

@@ -36,6 +36,7 @@ fn is_whole(size: usize, text: usize) -> bool
 }
 
 // Reads the header of a message; refuses another first byte, a text that is too long, and a length that is not that of the message.
+// A function and no TryFrom: a header is only a part of what these bytes are.
 pub fn read(message: &[u8]) -> Result<Header, Refusal>
     ensures answer { result ≡ reading message.now }
     ensures laws { Reads message.now result }

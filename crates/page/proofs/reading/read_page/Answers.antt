@@ -1,5 +1,6 @@
 -- Read exactly if the bytes pass all tests.
-use Rattle.std.proofs.Common.{refl}
+use Rattle.std.proofs.Common.{◌<◌, refl}
+use Rattle.std.proofs.ByRecursion.{All-from_get_or}
 use Rattle.std.proofs.lemmas.Bool.Decides.{not_from_Decides}
 use Rattle.page.proofs.Readings.{unread, not-whole, not-sound, page_read}
 use Rattle.page.proofs.reading.read_page.Goals as goal
@@ -17,4 +18,4 @@ returns-then-not-is_sound c = record {
 pub returns : goal.returns
 returns c =
     page_read c.args.who c.args.bytes.now c.in_ok-page.page c.in_ok-page.ensures.0 c.session-session.result c.session-session.ensures
-    c.restore.new.slots (λ i. (c.type_inv.bytes i).fits) c.in_ok-page.ensures.1 (c.is_sound.ensures.0 c.if-not-is_sound.false) c.restore.ensures.keys c.restore.ensures.rest
+    c.restore.new.slots (All-from_get_or (λ x. x < 256) c.args.bytes.now 0 (λ i h. (c.type_inv.bytes i).fits)) c.in_ok-page.ensures.1 (c.is_sound.ensures.0 c.if-not-is_sound.false) c.restore.ensures.keys c.restore.ensures.rest

@@ -1,8 +1,7 @@
 -- Keys that are numbers: their halves, and what two of them give.
-use Rattle.std.proofs.Common.{◌≡◌, ℕ, ◌+◌, ◌/◌, ◌%◌, true, false, eqb, ◌⊎◌, List, [], ◌++◌, length, get_or, take, drop, set, replicate, Some, None, sym, refl, ap, ◌∙◌, inl, inr, arith, length-drop}
+use Rattle.std.proofs.Common.{◌≡◌, ℕ, ◌+◌, ◌/◌, ◌%◌, true, false, eqb, ◌⊎◌, List, ◌++◌, get_or, take, set, replicate, Some, None, sym, refl, ap, ◌∙◌, inl, inr, arith}
 use borrow.Rule.Slice.PartMut.{put_mid}
 use denote.Enum.Declared.{tag_of}
-use Rattle.std.proofs.lemmas.List.{append-nil, drop_all}
 use Rattle.std.proofs.lemmas.Bool.{cases_lt, eq-eqb, ne_eqb}
 use Rattle.runs.specs.contracts.types.Who.{the_type}
 use Rattle.runs.specs.declared.types.Who.{Who}
@@ -76,10 +75,3 @@ agree a b =
       | inl e ↦ elim (parity b) [ inl f ↦ same_side a b (e ∙ sym f) ∙ sym (same_side b a (f ∙ sym e)) | inr f ↦ other-side a b e f ]
       | inr e ↦ elim (parity b) [ inl f ↦ sym (other-side b a f e) | inr f ↦ same_side a b (e ∙ sym f) ∙ sym (same_side b a (f ∙ sym e)) ]
     ]
-
--- the last half of 32 bytes overwritten
-pub behind : (xs ys zs : List ℕ) → length xs ≡ 32 → ys ≡ zs → put_mid 16 16 xs ys ≡ take 16 xs ++ zs
-behind xs ys zs h e =
-    let none : drop 16 (drop 16 xs) ≡ [] = drop_all 16 (drop 16 xs) (omega (arith, length-drop 16 xs)) in
-    let tidy = append-nil ys in
-    cc

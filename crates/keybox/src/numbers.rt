@@ -100,5 +100,4 @@ impl KeyBox for NumberBox {
 // Two boxes of numbers keep the law: a key with the other's public half gives what the other gives with its.
 pub fn numbers_agree()
     ensures { NumbersAgree }
-{
-}
+{}

@@ -48,6 +48,7 @@ pub(crate) fn put_aside(marks: &[Mark], keys: &[MessageKey], out: &mut [u8])
     requires room { length out.old ≡ 40 * length marks.now }
     ensures { out.new ≡ aside_bytes marks.now (map key_in keys.now) }
 {
+    // a running place: after a loop over `chunks_exact_mut` the proof knows nothing of what was written
     let mut at = 0;
     for (mark, key) in marks.iter().zip(keys) {
         put_entry(*mark, key, out, at);

@@ -18,8 +18,10 @@ pub fn wipe<T: Copy>(items: &mut [T], blank: T, place: usize) -> T
 
 // Works a zero that was read back into a result, which stays as it is.
 pub fn work_in(zero: u8, res: &mut [u8])
-    requires { (zero ≡ 0) × (0 < length res.old) }
+    requires { zero ≡ 0 }
     ensures { res.new ≡ res.old }
 {
-    res[0] ^= zero;
+    if let Some(first) = res.first_mut() {
+        *first ^= zero;
+    }
 }

@@ -112,7 +112,7 @@ module _ (bs : List ℕ) (bytes : All (λ b. b < 256) bs) where
       let e : i + 1 + 1 ≡ i + 2 = omega arith in
       ap (take 2) (one_taken i (omega arith) ∙ ap (λ xs. get_or bs i 0 ∷ xs) (one_taken (i + 1) (omega arith)))
 
-  two_back : (i : ℕ) → i + 2 ≤ length bs → take 2 (drop i bs) ≡ two_bytes (two_at bs i)
+  pub two_back : (i : ℕ) → i + 2 ≤ length bs → take 2 (drop i bs) ≡ two_bytes (two_at bs i)
   two_back i h =
       let a = byte i (omega arith) in
       let b = byte (i + 1) (omega arith) in
@@ -125,7 +125,7 @@ module _ (bs : List ℕ) (bytes : All (λ b. b < 256) bs) where
       let e : i + 2 + 1 ≡ i + 3 = omega arith in
       take-add 2 2 (drop i bs) ∙ (λ j. two_taken i (omega arith) j ++ (ap (take 2) (drop-drop 2 i bs) ∙ two_taken (i + 2) (omega arith)) j) ∙ ap (λ k. get_or bs i 0 ∷ get_or bs (i + 1) 0 ∷ get_or bs (i + 2) 0 ∷ get_or bs k 0 ∷ []) e
 
-  four_back : (i : ℕ) → i + 4 ≤ length bs → take 4 (drop i bs) ≡ four_bytes (four_at bs i)
+  pub four_back : (i : ℕ) → i + 4 ≤ length bs → take 4 (drop i bs) ≡ four_bytes (four_at bs i)
   four_back i h =
       let a = byte i (omega arith) in
       let b = byte (i + 1) (omega arith) in
@@ -136,6 +136,9 @@ module _ (bs : List ℕ) (bytes : All (λ b. b < 256) bs) where
       let z : get_or bs (i + 2) 0 ≡ four_at bs i / 256 % 256 = omega arith in
       let u : get_or bs (i + 3) 0 ≡ four_at bs i % 256 = omega arith in
       four_taken i h ∙ (λ j. x j ∷ y j ∷ z j ∷ u j ∷ [])
+
+  pub four_below : (i : ℕ) → i + 4 ≤ length bs → four_at bs i < 2 ^ 32
+  four_below i h = omega (arith, byte i (omega arith), byte (i + 1) (omega arith), byte (i + 2) (omega arith), byte (i + 3) (omega arith))
 
   module _ (w : Well bs) where
     -- the 47 bytes of the header, part by part
@@ -162,9 +165,6 @@ module _ (bs : List ℕ) (bytes : All (λ b. b < 256) bs) where
         let b = four_back 9 (omega (arith, w.size)) in
         let n = two_back 45 (omega (arith, w.size)) ∙ ap two_bytes (sym size_is) in
         in_parts ∙ (λ i. first_taken i ++ l i ++ p i ++ b i ++ take 32 (drop 13 bs) ++ n i)
-
-    four_below : (i : ℕ) → i + 4 ≤ length bs → four_at bs i < 2 ^ 32
-    four_below i h = omega (arith, byte i (omega arith), byte (i + 1) (omega arith), byte (i + 2) (omega arith), byte (i + 3) (omega arith))
 
     well_made : Made bs (parts_of bs)
     well_made = record {

@@ -1,25 +1,30 @@
 -- Keys that are numbers: their halves, and what two of them give.
-use Rattle.std.proofs.Common.{◌≡◌, ℕ, ◌+◌, ◌/◌, ◌%◌, Bool, true, false, cond, not, eqb, ◌⊎◌, List, [], ◌++◌, length, get_or, take, drop, set, replicate, Some, None, sym, refl, ap, ◌∙◌, inl, inr, arith, length-drop}
+use Rattle.std.proofs.Common.{◌≡◌, ℕ, ◌+◌, ◌/◌, ◌%◌, true, false, eqb, ◌⊎◌, List, ◌++◌, get_or, take, set, replicate, Some, None, sym, refl, ap, ◌∙◌, inl, inr, arith}
 use borrow.Rule.Slice.PartMut.{put_mid}
-use mir.Val.{bool_byte}
-use Rattle.std.proofs.lemmas.List.{append-nil, drop_all}
+use denote.Enum.Declared.{tag_of}
 use Rattle.std.proofs.lemmas.Bool.{cases_lt, eq-eqb, ne_eqb}
+use Rattle.runs.specs.contracts.types.Who.{the_type}
+use Rattle.runs.specs.declared.types.Who.{Who}
+use Rattle.runs.specs.declared.types.Who.TheVariants.{First, Second}
 use Rattle.keybox.specs.Numbers.{eight, key_of, number_half, number_joint}
 
-pub side-is : (second : Bool) (d : ℕ) → key_of second d % 2 ≡ bool_byte second
-side-is true d = omega arith
-side-is false d = omega arith
+-- a side as `as` numbers it
+abbrev number : Who → ℕ
+number who = tag_of the_type who
 
-draw_is : (second : Bool) (d : ℕ) → key_of second d / 2 ≡ d
-draw_is true d = omega arith
-draw_is false d = omega arith
+side-is : (who : Who) (d : ℕ) → key_of who d % 2 ≡ number who
+side-is First d = omega arith
+side-is Second d = omega arith
 
-pub half-put : (second : Bool) (d side : ℕ) (b : List ℕ) → side ≡ bool_byte second → b ≡ eight d →
-    put_mid 8 8 (set (replicate 32 0) 0 side) b ≡ number_half (key_of second d)
+draw_is : (who : Who) (d : ℕ) → key_of who d / 2 ≡ d
+draw_is First d = omega arith
+draw_is Second d = omega arith
+
+pub half-put : (who : Who) (d : ℕ) (b : List ℕ) → b ≡ eight d → put_mid 8 8 (set (replicate 32 0) 0 (number who)) b ≡ number_half (key_of who d)
 unfolding number_half
-half-put second d side b e f =
-    let s = side-is second d in
-    let t = ap eight (draw_is second d) in
+half-put who d b f =
+    let s = side-is who d in
+    let t = ap eight (draw_is who d) in
     cc
 
 -- what a key gives with a half: nothing if that is not the other side's, else the first's name and the second's
@@ -41,17 +46,15 @@ joint-second k h e f =
     let other : eqb (k % 2) 0 ≡ false = ne_eqb _ _ (λ z. omega arith) in
     simp (taken, other)
 
--- the same of the key of a draw, where f is the byte that the other side's halves begin with
-pub refuses : (second : Bool) (d f : ℕ) (h : List ℕ) → f ≡ bool_byte (not second) → (get_or h 0 0 ≡ f → ⊥) → None ≡ number_joint (key_of second d) h
-refuses true d f h e apart = sym (joint-none (key_of true d) h (λ z. apart (omega (arith, side-is true d))))
-refuses false d f h e apart = sym (joint-none (key_of false d) h (λ z. apart (omega (arith, side-is false d))))
+-- the same of the key of a draw
+pub joined-first : (d : ℕ) (h own r : List ℕ) → get_or h 0 0 ≡ 1 → own ≡ number_half (key_of First d) → r ≡ take 16 own ++ take 16 h → Some r ≡ number_joint (key_of First d) h
+joined-first d h own r f mine is = let e = joint-first (key_of First d) h (side-is First d) f in cc
 
-pub joined : (second : Bool) (d f : ℕ) (h own r : List ℕ) → f ≡ bool_byte (not second) → get_or h 0 0 ≡ f → own ≡ number_half (key_of second d) →
-    r ≡ cond second (take 16 h ++ take 16 own) (take 16 own ++ take 16 h) → Some r ≡ number_joint (key_of second d) h
-joined true d f h own r e theirs mine is =
-    ap Some (is ∙ ap (λ (o : List ℕ). take 16 h ++ take 16 o) mine) ∙ sym (joint-second (key_of true d) h (side-is true d) (theirs ∙ e))
-joined false d f h own r e theirs mine is =
-    ap Some (is ∙ ap (λ (o : List ℕ). take 16 o ++ take 16 h) mine) ∙ sym (joint-first (key_of false d) h (side-is false d) (theirs ∙ e))
+pub joined-second : (d : ℕ) (h own r : List ℕ) → get_or h 0 0 ≡ 0 → own ≡ number_half (key_of Second d) → r ≡ take 16 h ++ take 16 own → Some r ≡ number_joint (key_of Second d) h
+joined-second d h own r f mine is = let e = joint-second (key_of Second d) h (side-is Second d) f in cc
+
+pub refuses : (who : Who) (d : ℕ) (h : List ℕ) → (get_or h 0 0 + number who ≡ 1 → ⊥) → None ≡ number_joint (key_of who d) h
+refuses who d h apart = sym (joint-none (key_of who d) h (λ z. apart (omega (arith, side-is who d))))
 
 half-side : (k : ℕ) → get_or (number_half k) 0 0 ≡ k % 2
 unfolding number_half
@@ -72,10 +75,3 @@ agree a b =
       | inl e ↦ elim (parity b) [ inl f ↦ same_side a b (e ∙ sym f) ∙ sym (same_side b a (f ∙ sym e)) | inr f ↦ other-side a b e f ]
       | inr e ↦ elim (parity b) [ inl f ↦ sym (other-side b a f e) | inr f ↦ same_side a b (e ∙ sym f) ∙ sym (same_side b a (f ∙ sym e)) ]
     ]
-
--- the last half of 32 bytes overwritten
-pub behind : (xs ys zs : List ℕ) → length xs ≡ 32 → ys ≡ zs → put_mid 16 16 xs ys ≡ take 16 xs ++ zs
-behind xs ys zs h e =
-    let none : drop 16 (drop 16 xs) ≡ [] = drop_all 16 (drop 16 xs) (omega (arith, length-drop 16 xs)) in
-    let tidy = append-nil ys in
-    cc

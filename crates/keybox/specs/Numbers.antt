@@ -1,11 +1,13 @@
 -- Keys that are numbers, for rehearsals and tests: nothing about them is secret.
 -- Assumes nothing.
-use Rattle.std.specs.Prelude.{ℕ, ◌+◌, ◌*◌, ◌/◌, ◌%◌, Bool, cond, List, [], ◌∷◌, ◌++◌, take, replicate, Some, None, Option, ◌==◌, slice_index}
-use Rattle.keybox.specs.Box.{Agree}
+use Rattle.std.specs.Prelude.{ℕ, ◌+◌, ◌*◌, ◌/◌, ◌%◌, cond, List, [], ◌∷◌, ◌++◌, take, replicate, Some, None, Option, ◌==◌, slice_index}
+use Rattle.runs.specs.declared.types.Who.{Who}
+use Rattle.runs.specs.declared.types.Who.TheVariants.{First, Second}
+use Rattle.keybox.specs.Box.{Scheme, Agree}
 
 -- the key that a side drew at its draw d: even for the first side's, odd for the second's
-abbrev pub key_of : (second : Bool) → ℕ → ℕ
-key_of second d = 2 * d + cond second 1 0
+abbrev pub key_of : Who → ℕ → ℕ
+key_of who d = 2 * d + elim who [ First ↦ 0 | Second ↦ 1 ]
 
 -- a number in eight bytes, high byte first
 abbrev pub eight : ℕ → List ℕ
@@ -24,6 +26,9 @@ number_joint k half =
     (Some (cond (k % 2 == 0) (take 16 (number_half k) ++ take 16 half) (take 16 half ++ take 16 (number_half k))))
     None
 
+abbrev pub numbers : Scheme
+numbers = record { half_of = number_half; joint_of = number_joint }
+
 -- the law of two boxes: a key with the other's public half gives what the other gives with its
 abbrev pub NumbersAgree : Type 0
-NumbersAgree = Agree number_half number_joint
+NumbersAgree = Agree numbers

@@ -1,17 +1,29 @@
 -- What drawing the next key for a public half comes to, and what it leaves of the box.
 -- Assumes nothing.
-use Rattle.std.specs.Prelude.{◌≡◌, ℕ, ◌≤◌, List, Some, None, Option}
-use Rattle.keybox.specs.Box.{Drawn}
-use Rattle.keybox.specs.declared.renewed.Renewed.{Renewed}
-use Rattle.keybox.specs.declared.renewed.Renewed.TheVariants.{Made, NoKey, NotTaken}
+use Rattle.std.specs.Prelude.{◌≡◌, ℕ, ◌≤◌, List, Some, None, Ok, Err, Result}
+use Rattle.chain.specs.declared.keys.JointSecret.{JointSecret}
+use Rattle.chain.specs.declared.keys.PublicHalf.{PublicHalf}
+use Rattle.keybox.specs.Box.{Keys, Scheme, Drawn}
+use Rattle.keybox.specs.declared.errors.KeyError.{KeyError}
+use Rattle.keybox.specs.declared.errors.KeyError.TheVariants.{NoKey, NotTaken}
 
-module _ {B : Type 0} (last_key fresh_key : B → Option ℕ) (next_key : B → ℕ) (half_of : ℕ → List ℕ) (joint_of : ℕ → List ℕ → Option (List ℕ)) where
-  -- a key was drawn, and what it gives with a half
-  pub record Makes (before after : B) (theirs half joint : List ℕ) : Type 0 where
-    pub drawn : Drawn (last_key before) (next_key before) (last_key after) (fresh_key after) (next_key after) half_of half
-    pub gives : joint_of drawn.key theirs ≡ Some joint
+-- a key was drawn, and forgotten
+pub record Forgotten (before after : Keys) : Type 0 where
+  pub last : after.last ≡ before.last
+  pub fresh : after.fresh ≡ None
+  pub next : before.next ≤ after.next
 
-  abbrev pub Renewal : (before after : B) (theirs : List ℕ) → Renewed → Type 0
-  Renewal before after theirs (Made half joint) = Makes before after theirs half.0 joint.0
-  Renewal before after theirs NoKey = after ≡ before
-  Renewal before after theirs NotTaken = (last_key after ≡ last_key before) × (fresh_key after ≡ None) × (next_key before ≤ next_key after)
+-- a key was drawn, and what it gives with a half
+pub record Makes (scheme : Scheme) (before after : Keys) (theirs half joint : List ℕ) : Type 0 where
+  pub drawn : Drawn scheme before after half
+  pub gives : scheme.joint_of drawn.key theirs ≡ Some joint
+
+module _ {B : Type 0} (keys : B → Keys) where
+  -- without a key the box is as it was; with one that doesn't go with the half that came, that key was forgotten
+  abbrev pub Unmade : (before after : B) → KeyError → Type 0
+  Unmade before after NoKey = after ≡ before
+  Unmade before after NotTaken = Forgotten (keys before) (keys after)
+
+  abbrev pub Renewal : (scheme : Scheme) (before after : B) (theirs : List ℕ) → Result (PublicHalf × JointSecret) KeyError → Type 0
+  Renewal scheme before after theirs (Ok made) = Makes scheme (keys before) (keys after) theirs made.0.0 made.1.0
+  Renewal scheme before after theirs (Err why) = Unmade before after why

@@ -2,11 +2,11 @@
 #![tactic(auto)]
 
 mod boxes;
+mod errors;
 mod numbers;
 mod renewal;
-mod renewed;
 
 pub use boxes::KeyBox;
+pub use errors::KeyError;
 pub use numbers::{NumberBox, numbers_agree};
 pub use renewal::renew;
-pub use renewed::Renewed;

@@ -1,40 +1,42 @@
 -- Bytes that pass all tests are the page of what they say.
 use Rattle.std.proofs.Common.{◌≡◌, ℕ, zero, suc, ◌+◌, ◌*◌, ◌^◌, ◌<◌, ◌≤◌, List, [], ◌∷◌, length, take, drop, sym, refl, ap, ◌∙◌, arith, take-append-drop, take-add}
 use Rattle.std.specs.List.{AllByRecursion as All}
+use Rattle.std.proofs.ByRecursion.{All-drop}
 use Rattle.std.proofs.lemmas.List.{drop_more, length-drop, length-take-le}
 use Rattle.runs.specs.declared.types.Who.{Who}
 use Rattle.exchange.specs.Wire.{two_at}
+use Rattle.exchange.proofs.Wires.{two_back, four_back, four_below}
+use Rattle.page.specs.Kept.{IsBytes}
 use Rattle.page.specs.Layout.{count_bytes, front_bytes, entry_bytes, aside_bytes, body_bytes, page_bytes}
 use Rattle.page.specs.Valid.{Sound, Valid}
 use Rattle.page.specs.Parts.{mark_at, marks_in, keys_in, state_in, held_in, Whole}
-use Rattle.page.proofs.Numbers.{Bytes, bytes_drop, two_back, four_back, four_below}
 use Rattle.page.proofs.Parsed.{length-marks, length-keys}
 
 -- ### Entries
 
-entry_back : (l : List ℕ) → Bytes l → 40 ≤ length l → take 40 l ≡ entry_bytes (mark_at l 0) (take 32 (drop 8 l))
+entry_back : (l : List ℕ) → IsBytes l → 40 ≤ length l → take 40 l ≡ entry_bytes (mark_at l 0) (take 32 (drop 8 l))
 unfolding entry_bytes
 entry_back l fit h =
     let a = take-add 4 4 l in
     let b = take-add 8 32 l in
-    let link = four_back l 0 fit (omega arith) in
-    let place = four_back l 4 fit (omega arith) in
+    let link = four_back l fit 0 (omega arith) in
+    let place = four_back l fit 4 (omega arith) in
     cc
 
-entries_back : (n : ℕ) (l : List ℕ) → Bytes l → 40 * n ≤ length l → take (40 * n) l ≡ aside_bytes (marks_in n l) (keys_in n l)
+entries_back : (n : ℕ) (l : List ℕ) → IsBytes l → 40 * n ≤ length l → take (40 * n) l ≡ aside_bytes (marks_in n l) (keys_in n l)
 unfolding aside_bytes marks_in keys_in
 entries_back zero l fit h = refl
 entries_back (suc n) l fit h =
     let e : 40 * suc n ≡ 40 + 40 * n = omega arith in
     let split = take-add 40 (40 * n) l in
     let first = entry_back l fit (omega arith) in
-    let others = entries_back n (drop 40 l) (bytes_drop 40 l fit) (omega (arith, length-drop 40 l)) in
+    let others = entries_back n (drop 40 l) (All-drop (λ x. x < 256) 40 l fit) (omega (arith, length-drop 40 l)) in
     cc
 
-places-below : (n : ℕ) (l : List ℕ) → Bytes l → All (λ m. m.place < 2 ^ 32) (marks_in n l)
+places-below : (n : ℕ) (l : List ℕ) → IsBytes l → 40 * n ≤ length l → All (λ m. m.place < 2 ^ 32) (marks_in n l)
 unfolding marks_in
-places-below zero l fit = tt
-places-below (suc n) l fit = (four_below l 4 fit, places-below n (drop 40 l) (bytes_drop 40 l fit))
+places-below zero l fit h = tt
+places-below (suc n) l fit h = (four_below l fit 4 (omega arith), places-below n (drop 40 l) (All-drop (λ x. x < 256) 40 l fit) (omega (arith, length-drop 40 l)))
 
 keys-sized : (n : ℕ) (l : List ℕ) → 40 * n ≤ length l → All (λ k. length k ≡ 32) (keys_in n l)
 unfolding keys_in
@@ -44,7 +46,7 @@ keys-sized (suc n) l h =
 
 -- ### The page
 
-module _ (b : List ℕ) (fit : Bytes b) (w : Whole b) where
+module _ (b : List ℕ) (fit : IsBytes b) (w : Whole b) where
   abbrev count : ℕ
   count = two_at b 145
 
@@ -56,10 +58,10 @@ module _ (b : List ℕ) (fit : Bytes b) (w : Whole b) where
       let t9 = take-add 5 4 b in
       let t13 = take-add 9 4 b in
       let t17 = take-add 13 4 b in
-      let drawn = four_back b 1 fit (omega (arith, w.long)) in
-      let sent = four_back b 5 fit (omega (arith, w.long)) in
-      let taken = four_back b 9 fit (omega (arith, w.long)) in
-      let before = four_back b 13 fit (omega (arith, w.long)) in
+      let drawn = four_back b fit 1 (omega (arith, w.long)) in
+      let sent = four_back b fit 5 (omega (arith, w.long)) in
+      let taken = four_back b fit 9 (omega (arith, w.long)) in
+      let before = four_back b fit 13 (omega (arith, w.long)) in
       cc
 
   front_back : take 145 b ≡ front_bytes (held_in b)
@@ -78,9 +80,9 @@ module _ (b : List ℕ) (fit : Bytes b) (w : Whole b) where
       let t145 = front_back in
       let t147 = take-add 145 2 b in
       let all = take-add 147 (40 * count) b in
-      let two = two_back b 145 fit (omega (arith, w.long)) in
+      let two = two_back b fit 145 (omega (arith, w.long)) in
       let size = length-marks count (drop 147 b) in
-      let aside = entries_back count (drop 147 b) (bytes_drop 147 b fit) (omega (arith, w.long, length-drop 147 b)) in
+      let aside = entries_back count (drop 147 b) (All-drop (λ x. x < 256) 147 b fit) (omega (arith, w.long, length-drop 147 b)) in
       cc
 
   pub page_back : b ≡ page_bytes (held_in b)
@@ -97,11 +99,11 @@ module _ (b : List ℕ) (fit : Bytes b) (w : Whole b) where
   pub valid_back : (who : Who) → Sound who (state_in b) (take 32 (drop 81 b)) (take 32 (drop 113 b)) → Valid who (held_in b)
   valid_back who sound = record {
     counted = record {
-      drawn = four_below b 1 fit;
-      sent = four_below b 5 fit;
-      taken = four_below b 9 fit;
-      before = four_below b 13 fit;
-      places = places-below count (drop 147 b) (bytes_drop 147 b fit);
+      drawn = four_below b fit 1 (omega (arith, w.long));
+      sent = four_below b fit 5 (omega (arith, w.long));
+      taken = four_below b fit 9 (omega (arith, w.long));
+      before = four_below b fit 13 (omega (arith, w.long));
+      places = places-below count (drop 147 b) (All-drop (λ x. x < 256) 147 b fit) (omega (arith, w.long, length-drop 147 b));
     };
     sized = record {
       root = part_sized 49 (omega arith);

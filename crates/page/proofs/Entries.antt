@@ -21,31 +21,31 @@ aside-push (x ∷ ms) (y ∷ ks) m k e =
     ap (λ (l : List ℕ). entry_bytes x y ++ l) (aside-push ms ks m k (omega arith)) ∙ sym (append_assoc (entry_bytes x y) (aside_bytes ms ks) (entry_bytes m k))
 
 -- one more in a loop that puts them
-pub aside-more : (ms : List Mark) (ks : List MessageKey) (was now : List ℕ) (i : ℕ) (m : Mark) (k : MessageKey) → i < length ms → length ks ≡ length ms → length was ≡ 40 * length ms →
-    length now ≡ length was → take (40 * i) was ≡ aside_bytes (take i ms) (map key_in (take i ks)) →
-    now ≡ take (40 * i) was ++ (entry_bytes (get_or ms i m) (get_or ks i k).0 ++ drop (40 * i + 40) was) →
-    take (40 * (i + 1)) now ≡ aside_bytes (take (i + 1) ms) (map key_in (take (i + 1) ks))
-aside-more ms ks was now i m k h e size kept so_far put =
-    let entry = entry_bytes (get_or ms i m) (get_or ks i k).0 in
-    let front : length (take (40 * i) was) ≡ 40 * i = length-take-le (40 * i) was (omega arith) in
-    let whole = length-append (take (40 * i) was) (entry ++ drop (40 * i + 40) was) in
-    let behind = length-append entry (drop (40 * i + 40) was) in
-    let left = length-drop (40 * i + 40) was in
+pub aside-more : (ms : List Mark) (ks : List MessageKey) (was now : List ℕ) (i at : ℕ) (m : Mark) (k : MessageKey) → i < length ms → length ks ≡ length ms → length was ≡ 40 * length ms →
+    length now ≡ length was → at ≡ 40 * i → m ≡ get_or ms i m → k ≡ get_or ks i k → take at was ≡ aside_bytes (take i ms) (map key_in (take i ks)) →
+    now ≡ take at was ++ (entry_bytes m k.0 ++ drop (at + 40) was) →
+    take (at + 40) now ≡ aside_bytes (take (i + 1) ms) (map key_in (take (i + 1) ks))
+aside-more ms ks was now i at m k h e size kept here im ik so_far put =
+    let entry = entry_bytes m k.0 in
+    let front : length (take at was) ≡ at = length-take-le at was (omega arith) in
+    let whole = length-append (take at was) (entry ++ drop (at + 40) was) in
+    let behind = length-append entry (drop (at + 40) was) in
+    let left = length-drop (at + 40) was in
     let all = ap length put in
-    let long : length (take (40 * i) was ++ entry) ≡ 40 * (i + 1) = length-append (take (40 * i) was) entry ∙ omega arith in
-    let group = append_assoc (take (40 * i) was) entry (drop (40 * i + 40) was) in
-    let taken = take_at (take (40 * i) was ++ entry) (drop (40 * i + 40) was) (40 * (i + 1)) long in
+    let long : length (take at was ++ entry) ≡ at + 40 = length-append (take at was) entry ∙ omega arith in
+    let group = append_assoc (take at was) entry (drop (at + 40) was) in
+    let taken = take_at (take at was ++ entry) (drop (at + 40) was) (at + 40) long in
     let marks = take_more ms i m h in
     let keys = map_more key_in ks i k (omega arith) in
     let same : length (map key_in (take i ks)) ≡ length (take i ms) =
     length-map (take i ks) key_in ∙ (length-take-le i ks (omega arith) ∙ sym (length-take-le i ms (omega arith))) in
-    let more = aside-push (take i ms) (map key_in (take i ks)) (get_or ms i m) (get_or ks i k).0 same in
+    let more = aside-push (take i ms) (map key_in (take i ks)) m k.0 same in
     cc
 
-pub aside-all : (ms : List Mark) (ks : List MessageKey) (now : List ℕ) (i : ℕ) → length ms ≤ i → length ks ≡ length ms → length now ≡ 40 * length ms →
-    take (40 * i) now ≡ aside_bytes (take i ms) (map key_in (take i ks)) → now ≡ aside_bytes ms (map key_in ks)
-aside-all ms ks now i h e size inv =
-    let a = take_all (40 * i) now (omega arith) in
+pub aside-all : (ms : List Mark) (ks : List MessageKey) (now : List ℕ) (i at : ℕ) → length ms ≤ i → length ks ≡ length ms → length now ≡ 40 * length ms → at ≡ 40 * i →
+    take at now ≡ aside_bytes (take i ms) (map key_in (take i ks)) → now ≡ aside_bytes ms (map key_in ks)
+aside-all ms ks now i at h e size here inv =
+    let a = take_all at now (omega arith) in
     let b = take_all i ms h in
     let c = take_all i ks (omega arith) in
     cc

@@ -14,8 +14,9 @@ use Rattle.exchange.specs.Outside.{Draw, Outside, Lawful}
 use Rattle.exchange.specs.Wire.{Parts}
 use Rattle.exchange.specs.Held.{Held, root_part, chain_part}
 use Rattle.exchange.specs.Exchanges.{walked, keys_along, keys_without, sent_on, held_in_turn, held_recalled, held_new}
+use Rattle.ratchet.proofs.Put.{length-places}
 use Rattle.page.specs.Valid.{Below, Rising, Aside, Valid}
-use Rattle.page.proofs.Marks.{rising-append, all-places, rising-places, length-places, all_without, rising-without, without-few, without-none}
+use Rattle.page.proofs.Marks.{rising-append, all-places, rising-places, all_without, rising-without, without-few, without-none}
 
 abbrev Sized32 : List (List ℕ) → Type 0
 Sized32 ks = All (λ k. length k ≡ 32) ks

@@ -4,7 +4,6 @@ mod Entries
 mod Numbers
 mod Parsed
 mod Restored
-mod Compared
 mod Marks
 mod Canonical
 mod Written

@@ -1,9 +1,10 @@
 -- Marks in order of link and place.
-use Rattle.std.proofs.Common.{◌≡◌, ℕ, zero, suc, ◌+◌, ◌-◌, ◌<◌, ◌≤◌, true, false, List, [], ◌∷◌, ◌++◌, length, get_or, take, Decides, sym, refl, ap, ◌∙◌, subst, inl, inr, arith}
-use Rattle.std.specs.List.{AllByRecursion as All}
-use Rattle.std.proofs.ByRecursion.{All-get_or, All-push, All-append}
-use Rattle.std.proofs.lemmas.List.{take_more}
+use Rattle.std.proofs.Common.{◌≡◌, ℕ, zero, suc, ◌+◌, ◌<◌, ◌≤◌, true, false, List, [], ◌∷◌, ◌++◌, length, get_or, Decides, sym, refl, ◌∙◌, subst, inl, inr, arith, Bool, nat_lt, ◌==◌, ◌||◌, ◌&&◌}
+use Rattle.std.specs.List.{AllByRecursion as All, IsAllAdjacentAnswer}
+use Rattle.std.proofs.ByRecursion.{All-get_or, All-weaker, All-append}
 use Rattle.std.proofs.lemmas.Bool.{false≢true, cond_both}
+use Rattle.std.proofs.lemmas.Bool.Decides.{nat_tests}
+use Rattle.ratchet.specs.Blank.{blank}
 use Rattle.ratchet.specs.declared.types.Mark.{Mark}
 use Rattle.ratchet.specs.Same.{same_mark}
 use Rattle.ratchet.specs.State.{places, without}
@@ -21,38 +22,40 @@ below_on a b c (inl h) (inr k) = inl (omega (arith, k.0))
 below_on a b c (inr h) (inl k) = inl (omega (arith, h.0))
 below_on a b c (inr h) (inr k) = inr (h.0 ∙ k.0, omega (arith, h.1, k.1))
 
-last_of : (P : Mark → Type 0) (ms : List Mark) (l : Mark) → All P (ms ++ l ∷ []) → P l
-last_of P [] l h = h.0
-last_of P (m ∷ ms) l h = last_of P ms l h.1
+-- as the order of marks tests it
+abbrev pub lower : Mark → Mark → Bool
+lower a b = nat_lt a.link b.link || (a.link == b.link && nat_lt a.place b.place)
 
--- one more that is above the last
-rising-push : (ms : List Mark) (l x : Mark) → Rising (ms ++ l ∷ []) → Below l x → Rising (ms ++ l ∷ [] ++ x ∷ [])
-rising-push [] l x h k = ((k, tt), (tt, tt))
-rising-push (m ∷ ms) l x h k =
-    (All-push (Below m) (ms ++ l ∷ []) x h.0 (below_on m l x (last_of (Below m) ms l h.0) k), rising-push ms l x h.1 k)
+lower_Decides : (a b : Mark) → Decides (lower a b) (Below a b)
+lower_Decides a b = (λ e. grind (arith, nat_tests), λ h. grind (arith, nat_tests))
 
-pub rising-one : (ms : List Mark) → Rising (take 1 ms)
-rising-one [] = tt
-rising-one (m ∷ ms) = (tt, tt)
+abbrev Neighbours : List Mark → Type 0
+Neighbours ms = (k : ℕ) (d : Mark) → suc k < length ms → Below (get_or ms k d) (get_or ms (suc k) d)
 
-pub rising-more : (ms : List Mark) (i : ℕ) (d : Mark) → 1 ≤ i → i < length ms → Rising (take i ms) → Below (get_or ms (i - 1) d) (get_or ms i d) → Rising (take (i + 1) ms)
-rising-more ms i d h k so_far below =
-    let back : i - 1 + 1 ≡ i = omega arith in
-    let last : take i ms ≡ take (i - 1) ms ++ get_or ms (i - 1) d ∷ [] = ap (λ n. take n ms) (sym back) ∙ take_more ms (i - 1) d (omega arith) in
-    let all : take (i + 1) ms ≡ take (i - 1) ms ++ get_or ms (i - 1) d ∷ [] ++ get_or ms i d ∷ [] =
-    take_more ms i d k ∙ ap (λ (l : List Mark). l ++ get_or ms i d ∷ []) last in
-    subst Rising (sym all) (rising-push (take (i - 1) ms) (get_or ms (i - 1) d) (get_or ms i d) (subst Rising last so_far) below)
+all_above : (m : Mark) (ms : List Mark) → Neighbours (m ∷ ms) → All (Below m) ms
+all_above m [] h = tt
+all_above m (x ∷ xs) h =
+    let first = h 0 m (omega arith) in
+    (first, All-weaker (Below x) (Below m) (λ y above. below_on m x y first above) xs (all_above x xs (λ k d l. h (suc k) d (omega arith))))
 
--- neighbours
-rising-at : (ms : List Mark) (i : ℕ) (d : Mark) → Rising ms → suc i < length ms → Below (get_or ms i d) (get_or ms (suc i) d)
-rising-at [] i d h k = absurd (omega arith)
-rising-at (m ∷ ms) zero d h k = All-get_or (Below m) ms 0 d (omega arith) h.0
-rising-at (m ∷ ms) (suc i) d h k = rising-at ms i d h.1 (omega arith)
+rising : (ms : List Mark) → Neighbours ms → Rising ms
+rising [] h = tt
+rising (m ∷ ms) h = (all_above m ms h, rising ms (λ k d l. h (suc k) d (omega arith)))
 
-pub rising-before : (ms : List Mark) (i : ℕ) (d : Mark) → 1 ≤ i → i < length ms → Rising ms → Below (get_or ms (i - 1) d) (get_or ms i d)
-rising-before ms i d h k rising =
-    let back : suc (i - 1) ≡ i = omega arith in
-    subst (λ n. Below (get_or ms (i - 1) d) (get_or ms n d)) back (rising-at ms (i - 1) d rising (omega arith))
+neighbours : (ms : List Mark) → Rising ms → Neighbours ms
+neighbours [] h k d l = absurd (omega arith)
+neighbours (m ∷ ms) h zero d l = All-get_or (Below m) ms 0 d (omega arith) h.0
+neighbours (m ∷ ms) h (suc k) d l = neighbours ms h.1 k d (omega arith)
+
+-- neighbour by neighbour
+pub rising_answer : (ms : List Mark) (r : Bool) → IsAllAdjacentAnswer (λ x y b. b ≡ lower x y) ms r → Decides r (Rising ms)
+rising_answer ms true h = decides_yes (rising ms (λ k d l.
+    let e : k + 1 ≡ suc k = omega arith in
+    subst (λ j. Below (get_or ms k d) (get_or ms j d)) e ((lower_Decides (get_or ms k d) (get_or ms (k + 1) d)).0 (sym (h k d (omega arith))))))
+rising_answer ms false h = decides_no (λ up.
+    let e : suc h.0 ≡ h.0 + 1 = omega arith in
+    let below = subst (λ j. Below (get_or ms h.0 blank) (get_or ms j blank)) e (neighbours ms up h.0 blank (omega (arith, h.1))) in
+    false≢true (h.2 blank ∙ (lower_Decides (get_or ms h.0 blank) (get_or ms (h.0 + 1) blank)).1 below))
 
 -- ### Marks put behind others, and taken out
 
@@ -70,11 +73,6 @@ pub rising-places : (l f n : ℕ) → Rising (places l f n)
 unfolding places
 rising-places l f zero = tt
 rising-places l f (suc n) = (all-places (Below (record { link = l; place = f })) l (f + 1) n (λ p a b. inr (refl, omega arith)), rising-places l (f + 1) n)
-
-pub length-places : (l f n : ℕ) → length (places l f n) ≡ n
-unfolding places
-length-places l f zero = refl
-length-places l f (suc n) = ap suc (length-places l (f + 1) n)
 
 -- one taken out
 pub all_without : (P : Mark → Type 0) (m : Mark) (xs : List Mark) → All P xs → All P (without m xs)

@@ -103,8 +103,7 @@ pub front-size : (was now front : List ℕ) (n : ℕ) → now ≡ front ++ drop 
 front-size was now front n e same h = omega (arith, length-append front (drop n was), length-drop n was, ap length e)
 
 -- the digest of the bytes before a place, of which a front takes all
-pub digest-of : (was before body : List ℕ) (end : ℕ) (digest : List ℕ) → length body ≡ end → before ≡ body ++ drop end was → digest ≡ sha_256 (take (end - 0) before) → digest ≡ sha_256 body
+pub digest-of : (was before body : List ℕ) (end : ℕ) (digest : List ℕ) → length body ≡ end → before ≡ body ++ drop end was → digest ≡ sha_256 (take end before) → digest ≡ sha_256 body
 digest-of was before body end digest size so_far is =
-    let z : end - 0 ≡ end = omega arith in
     let front : take end before ≡ body = ap (take end) so_far ∙ take_at body (drop end was) end size in
     cc

@@ -1,18 +1,19 @@
 -- When bytes are read as a page, when they are not, and the laws of both.
-use Rattle.std.proofs.Common.{◌≡◌, ℕ, ◌-◌, List, map, length, take, drop, replicate, Some, None, Option, sym, refl, ap, ◌∙◌, subst}
-use Rattle.std.proofs.lemmas.List.{take_rest}
+use Rattle.std.proofs.Common.{◌≡◌, ℕ, ◌-◌, List, map, take, drop, replicate, Some, None, Ok, Err, Option, Result, sym, refl, ap, ◌∙◌, subst}
+use Rattle.std.specs.Result.{IsErrAnd}
 use Rattle.seal.specs.declared.keys.MessageKey.{MessageKey}
-use Rattle.ratchet.specs.State.{state_of}
+use Rattle.ratchet.specs.State.{State, state_of}
 use Rattle.runs.specs.declared.types.Who.{Who}
-use Rattle.exchange.specs.Wire.{two_at}
 use Rattle.exchange.specs.Held.{Held, blank}
 use Rattle.session.specs.declared.sessions.Session.{Session}
-use Rattle.session.specs.Views.{key_in, held_of, Wiped}
+use Rattle.session.specs.Views.{key_in, held_of}
+use Rattle.page.specs.declared.pages.Page.{Page}
+use Rattle.page.specs.declared.refusal.BadPage.{BadPage}
+use Rattle.page.specs.Kept.{IsBytes}
 use Rattle.page.specs.Layout.{page_bytes}
 use Rattle.page.specs.Valid.{Sound, Valid}
-use Rattle.page.specs.Parts.{keys_in, state_in, held_in, Whole}
-use Rattle.page.specs.Reading.{Reads, PageLaws}
-use Rattle.page.proofs.Numbers.{Bytes}
+use Rattle.page.specs.Parts.{keys_in, state_in, held_in, Whole, Says}
+use Rattle.page.specs.Reading.{Reads, Restored, Restoring, PageLaws}
 use Rattle.page.proofs.Canonical.{page_back, valid_back}
 use Rattle.page.proofs.Written.{page_long, held_read, whole_read}
 
@@ -25,23 +26,51 @@ SoundIn who h = Sound who h.state h.sending h.taking
 pub not-whole : (who : Who) (b : List ℕ) → (Whole b → ⊥) → Reads who b None
 not-whole who b never = λ h v e. never (subst Whole (sym e) (whole_read who h v))
 
-pub not_sound : (who : Who) (b : List ℕ) → (Sound who (state_in b) (take 32 (drop 81 b)) (take 32 (drop 113 b)) → ⊥) → Reads who b None
+not_sound : (who : Who) (b : List ℕ) → (Sound who (state_in b) (take 32 (drop 81 b)) (take 32 (drop 113 b)) → ⊥) → Reads who b None
 not_sound who b never = λ h v e.
     let same : held_in b ≡ h = ap held_in e ∙ held_read who h v in
     never (subst (SoundIn who) (sym same) v.sound)
 
-pub is_page : (who : Who) (b : List ℕ) (h : Held) → Bytes b → Whole b → Sound who (state_in b) (take 32 (drop 81 b)) (take 32 (drop 113 b)) → held_in b ≡ h → Reads who b (Some h)
+is_page : (who : Who) (b : List ℕ) (h : Held) → IsBytes b → Whole b → Sound who (state_in b) (take 32 (drop 81 b)) (take 32 (drop 113 b)) → held_in b ≡ h → Reads who b (Some h)
 is_page who b h fit w sound same =
     (subst (Valid who) same (valid_back b fit w who sound), page_back b fit w ∙ ap page_bytes same)
 
--- a session with its slots, put together from the parts
-module _ (b : List ℕ) (s : Session) (slots : List MessageKey) (n : ℕ) (count : s.side.count ≡ n) where
-  pub session_is : state_of s.side ≡ state_in b → s.root.0 ≡ take 32 (drop 49 b) → s.sending.0 ≡ take 32 (drop 81 b) → s.taking.0 ≡ take 32 (drop 113 b) → s.half.0 ≡ take 32 (drop 17 b) →
-      n ≡ two_at b 145 → map key_in (take n slots) ≡ keys_in n (take (length b - 147) (drop 147 b)) → held_in b ≡ held_of s slots
-  session_is state root sending taking half counted keys = let behind = take_rest b 147 in cc
+pub unread : (who : Who) (b : List ℕ) (slots : List MessageKey) (r : Result Session BadPage) (P : BadPage → Type 0) → IsErrAnd r P → Reads who b None → Restoring who b slots slots r
+unread who b slots (Ok s) P e none = absurd e
+unread who b slots (Err why) P e none = record { page = none; slots = refl }
 
-  pub session_wiped : drop n slots ≡ replicate (512 - n) (record { 0 = blank }) → Wiped s slots
-  session_wiped rest = cc
+-- a session that holds what a page says
+module _ (who : Who) (b : List ℕ) (page : Page) (same : page.bytes.now ≡ b) (s : Session) (says : Says page.bytes.now s) where
+  those : Says b s
+  those = subst (λ (x : List ℕ). Says x s) same says
+
+  abbrev Sounds : State → (sending taking : List ℕ) → Type 0
+  Sounds state sending taking = Sound who state sending taking
+
+  pub not-sound : (Sound who (state_of s.side) s.sending.0 s.taking.0 → ⊥) → Reads who b None
+  not-sound never = let e = those in not_sound who b (λ sound. never
+      (subst (λ (x : State). Sounds x s.sending.0 s.taking.0) (sym e.state)
+      (subst (λ (x : List ℕ). Sounds (state_in b) x s.taking.0) (sym e.sending) (subst (λ (x : List ℕ). Sounds (state_in b) (take 32 (drop 81 b)) x) (sym e.taking) sound))))
+
+  pub page_read : (slots : List MessageKey) → IsBytes b → Whole b → Sound who (state_of s.side) s.sending.0 s.taking.0 →
+      map key_in (take page.count slots) ≡ keys_in page.count (drop 147 page.bytes.now) → drop page.count slots ≡ replicate (512 - page.count) (record { 0 = blank }) → Restored who b s slots
+  page_read slots fit whole sound keys rest =
+      let e = those in
+      let counted = page.counted in
+      let state = e.state in
+      let count = e.count in
+      let root = e.root in
+      let sending = e.sending in
+      let taking = e.taking in
+      let half = e.half in
+      let held : held_in b ≡ held_of s slots = cc in
+      record {
+        page = is_page who b (held_of s slots) fit whole
+            (subst (λ (x : State). Sounds x (take 32 (drop 81 b)) (take 32 (drop 113 b))) e.state
+            (subst (λ (x : List ℕ). Sounds (state_of s.side) x (take 32 (drop 113 b))) e.sending (subst (λ (x : List ℕ). Sounds (state_of s.side) s.sending.0 x) e.taking sound)))
+            held;
+        wiped = let n : page.count ≡ s.side.count = cc in cc;
+      }
 
 -- ### The laws
 

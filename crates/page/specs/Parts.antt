@@ -3,9 +3,10 @@
 use Rattle.std.specs.Prelude.{◌≡◌, ℕ, zero, suc, ◌+◌, ◌*◌, ◌≤◌, List, [], ◌∷◌, length, take, drop, slice_index_or}
 use Rattle.digest.specs.Sha256.{sha_256}
 use Rattle.ratchet.specs.declared.types.Mark.{Mark}
-use Rattle.ratchet.specs.State.{State}
+use Rattle.ratchet.specs.State.{State, state_of}
 use Rattle.exchange.specs.Wire.{four_at, two_at}
 use Rattle.exchange.specs.Held.{Held}
+use Rattle.session.specs.declared.sessions.Session.{Session}
 
 -- the mark in the bytes from a place on
 abbrev pub mark_at : List ℕ → ℕ → Mark
@@ -41,3 +42,12 @@ pub record Whole (b : List ℕ) : Type 0 where
   pub few : two_at b 145 ≤ 512
   pub long : length b ≡ 179 + 40 * two_at b 145
   pub digest : drop (147 + 40 * two_at b 145) b ≡ sha_256 (take (147 + 40 * two_at b 145) b)
+
+-- a session that holds what a page says
+pub record Says (b : List ℕ) (s : Session) : Type 0 where
+  pub state : state_of s.side ≡ state_in b
+  pub count : s.side.count ≡ two_at b 145
+  pub root : s.root.0 ≡ take 32 (drop 49 b)
+  pub sending : s.sending.0 ≡ take 32 (drop 81 b)
+  pub taking : s.taking.0 ≡ take 32 (drop 113 b)
+  pub half : s.half.0 ≡ take 32 (drop 17 b)

@@ -2,13 +2,13 @@
 #![tactic(auto)]
 
 mod laws;
+mod pages;
 mod parts;
 mod putting;
 mod reading;
 mod refusal;
 mod slots;
 mod sound;
-mod whole;
 mod writing;
 
 pub use laws::{page_laws_hold, steps_keep_sides_valid};

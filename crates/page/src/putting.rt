@@ -4,6 +4,7 @@ ghost use Rattle.ratchet.specs.State.{state_of};
 ghost use Rattle.session.specs.Views.{key_in};
 ghost use Rattle.page.specs.Layout.{count_bytes, entry_bytes, aside_bytes};
 
+use octets::put;
 use ratchet::sides::Side;
 use ratchet::types::Mark;
 use seal::MessageKey;
@@ -20,17 +21,8 @@ pub(crate) const ENTRY: usize = 40;
 // How many the digest has.
 pub(crate) const DIGEST: usize = 32;
 
-// Copies a part into bytes, from a place on.
-pub(crate) fn put(bytes: &mut [u8], at: usize, part: &[u8])
-    requires { at + length part.now ≤ length bytes.old }
-    ensures { bytes.new ≡ take at bytes.old ++ (part.now ++ drop (at + length part.now) bytes.old) }
-{
-    bytes[at..at + part.len()].copy_from_slice(part);
-}
-
 // The version and the four counts, at the front.
-pub(crate) fn put_counts(side: &Side, out: &mut [u8])
-    requires { 17 ≤ length out.old }
+pub(crate) fn put_counts(side: &Side, out: &mut [u8; 20659])
     ensures { out.new ≡ count_bytes (state_of side.now) ++ drop 17 out.old }
 {
     put(out, 0, &[VERSION]);
@@ -56,7 +48,10 @@ pub(crate) fn put_aside(marks: &[Mark], keys: &[MessageKey], out: &mut [u8])
     requires room { length out.old ≡ 40 * length marks.now }
     ensures { out.new ≡ aside_bytes marks.now (map key_in keys.now) }
 {
-    for i in 0..marks.len() {
-        put_entry(marks[i], &keys[i], out, 40 * i);
+    // a running place: after a loop over `chunks_exact_mut` the proof knows nothing of what was written
+    let mut at = 0;
+    for (mark, key) in marks.iter().zip(keys) {
+        put_entry(*mark, key, out, at);
+        at += ENTRY;
     }
 }

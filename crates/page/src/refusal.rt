@@ -2,14 +2,14 @@
 ghost use Rattle.std.specs.Prelude.{◌≡◌};
 
 // The bytes are no page that this side could write.
-#[derive(Clone, Copy)]
+#[derive(Clone, Copy, Debug, PartialEq, Eq)]
 pub struct BadPage;
 
-impl BadPage {
-    // The number that programs print.
-    pub fn number(self) -> u8
-        ensures { result ≡ 7 }
-    {
+// The number that programs print.
+impl From<BadPage> for u8 {
+    ghost from_gives = { λ _ n. n ≡ 7 };
+
+    fn from(_why: BadPage) -> u8 {
         7
     }
 }

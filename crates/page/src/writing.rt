@@ -4,8 +4,9 @@ ghost use Rattle.seal.specs.declared.keys.MessageKey.{MessageKey as Key};
 ghost use Rattle.session.specs.Views.{held_of};
 ghost use Rattle.page.specs.Layout.{front_bytes, body_bytes, page_bytes};
 
-use crate::putting::{DIGEST, ENTRY, FRONT, put, put_aside, put_counts};
+use crate::putting::{DIGEST, ENTRY, FRONT, put_aside, put_counts};
 use digest::sha256;
+use octets::put;
 use seal::MessageKey;
 use session::Session;
 
@@ -13,8 +14,7 @@ use session::Session;
 pub const LONGEST_PAGE: usize = 20659;
 
 // The counts, and the keys that are in use.
-fn put_front(session: &Session, out: &mut [u8])
-    requires { 145 ≤ length out.old }
+fn put_front(session: &Session, out: &mut [u8; 20659])
     ensures { (slots : List Key) → out.new ≡ front_bytes (held_of session.now slots) ++ drop 145 out.old }
 {
     put_counts(&session.side, out);
@@ -25,8 +25,7 @@ fn put_front(session: &Session, out: &mut [u8])
 }
 
 // All before the digest; the answer is its length.
-fn put_body(session: &Session, slots: &[MessageKey; 512], out: &mut [u8]) -> usize
-    requires { 20627 ≤ length out.old }
+fn put_body(session: &Session, slots: &[MessageKey; 512], out: &mut [u8; 20659]) -> usize
     ensures bytes { out.new ≡ body_bytes (held_of session.now slots.now) ++ drop result out.old }
     ensures size { result ≡ 147 + 40 * session.now.side.count }
 {
@@ -34,6 +33,7 @@ fn put_body(session: &Session, slots: &[MessageKey; 512], out: &mut [u8]) -> usi
     let end = FRONT + ENTRY * count;
     put_front(session, out);
     put(out, 145, &(count as u16).to_be_bytes());
+    // the marks as a part of their array, of which the proof knows how long it is: of what `aside` gives it doesn't
     put_aside(
         &session.side.marks[0..count],
         &slots[0..count],
@@ -49,7 +49,7 @@ pub fn write_page(session: &Session, slots: &[MessageKey; 512], out: &mut [u8; 2
     ensures size { result ≡ 179 + 40 * session.now.side.count }
 {
     let end = put_body(session, slots, out);
-    let digest = sha256(&out[0..end]);
+    let digest = sha256(&out[..end]);
     put(out, end, &digest);
     end + DIGEST
 }

@@ -1,5 +1,5 @@
 pub mod Finds
 pub mod Sought
 pub mod TakenOut
-mod Put
+pub mod Put
 mod Kept

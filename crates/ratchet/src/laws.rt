@@ -8,5 +8,4 @@ use crate::types::{Mark, Message};
 pub fn equality_reads_every_part()
     ensures marks { (a b : Mark) → ⟦<Mark as PartialEq>⟧.eq a b ≡ same_mark a b }
     ensures messages { (a b : Message) → ⟦<Message as PartialEq>⟧.eq a b ≡ same_message a b }
-{
-}
+{}

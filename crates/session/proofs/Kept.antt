@@ -6,7 +6,7 @@ use Rattle.session.proofs.Written.{length-covered, length-tag}
 use Rattle.session.specs.Lawful.{OursLawful}
 
 pub ours-lawful : OursLawful
-ours-lawful = λ half_of joint_of boxes. record {
+ours-lawful = λ scheme boxes. record {
   link_length = λ root joint. length-hkdf root joint [] 64;
   key_length = λ chain. length-hmac chain _;
   next_length = λ chain. length-hmac chain _;
@@ -18,7 +18,7 @@ ours-lawful = λ half_of joint_of boxes. record {
       let z : 2 * m + 0 ≡ 2 * m = omega arith in
       record {
         secret = (boxes.answers m n).0;
-        ours = ap (λ (k : ℕ). joint_of k (half_of (2 * n + 1))) z ∙ (boxes.answers m n).1;
-        theirs = ap (λ (k : ℕ). joint_of (2 * n + 1) (half_of k)) z ∙ (boxes.agree (2 * n + 1) (2 * m) ∙ (boxes.answers m n).1);
+        ours = ap (λ (k : ℕ). scheme.joint_of k (scheme.half_of (2 * n + 1))) z ∙ (boxes.answers m n).1;
+        theirs = ap (λ (k : ℕ). scheme.joint_of (2 * n + 1) (scheme.half_of k)) z ∙ (boxes.agree (2 * n + 1) (2 * m) ∙ (boxes.answers m n).1);
       };
 }

@@ -2,14 +2,14 @@
 mod Written
 mod Posted
 mod Texts
-mod Slots
 mod Chains
+mod Slots
 mod InTurn
 mod Aside
 mod FromSlot
 mod Draws
 mod NewLinks
-mod Headers
 mod Dispatch
 mod Beginnings
 mod Kept
+pub mod Copies

@@ -1,7 +1,7 @@
 -- A message at the front of an output: its header, and behind it the sealed text.
-use Rattle.std.proofs.Common.{◌≡◌, ℕ, ◌+◌, ◌-◌, ◌≤◌, List, [], ◌++◌, length, take, drop, replicate, Ok, Err, Result, ap, ◌∙◌, arith}
+use Rattle.std.proofs.Common.{◌≡◌, ℕ, ◌+◌, ◌≤◌, List, [], ◌++◌, length, take, drop, replicate, Ok, Err, Result, ap, ◌∙◌, arith}
 use borrow.Rule.Slice.PartMut.{put_mid}
-use Rattle.std.proofs.lemmas.List.{append_assoc, append-nil, length-append, length-drop, length-take-le, take_at, drop_at, drop-drop, drop_all, take_rest}
+use Rattle.std.proofs.lemmas.List.{append_assoc, append-nil, length-append, length-drop, length-take-le, take_at, drop_at, drop-drop, drop_all, take_all}
 use Rattle.std.proofs.lemmas.Slice.{drop-append-drop}
 use Rattle.digest.specs.Hmac.{hmac_sha_256}
 use Rattle.digest.proofs.Lengths.{length-hmac}
@@ -31,24 +31,25 @@ sealed-there key header text part after (Ok size) a short room =
 sealed-there key header text part after (Err TooLong) a short room = absurd (a.reason (omega arith))
 sealed-there key header text part after (Err NoRoom) a short room = absurd (omega (arith, a.reason.1))
 
-pub text-put : (key header text out ys : List ℕ) (r : Result ℕ SealError) → length text ≤ 1000 → 63 + length text ≤ length out →
-    SealAnswer key header text (take (length out - 47) (drop 47 out)) ys r →
-    put_mid 47 (length out - 47) out ys ≡ take 47 out ++ (sealed key header text ++ drop (63 + length text) out)
-text-put key header text out ys r short room a =
-    let part = take_rest out 47 in
-    let long : length (take (length out - 47) (drop 47 out)) ≡ length out - 47 = ap length part ∙ length-drop 47 out in
-    let made = sealed-there key header text (take (length out - 47) (drop 47 out)) ys r a short (omega arith) in
-    let none : drop (length out - 47) (drop 47 out) ≡ [] = drop_all (length out - 47) (drop 47 out) (omega (arith, length-drop 47 out)) in
+pub text-put : (key header text out ys : List ℕ) (r : Result ℕ SealError) → length text ≤ 1000 → length out ≡ 1063 → SealAnswer key header text (take 1016 (drop 47 out)) ys r →
+    put_mid 47 1016 out ys ≡ take 47 out ++ (sealed key header text ++ drop (63 + length text) out)
+text-put key header text out ys r short size a =
+    let behind : length (drop 47 out) ≡ 1016 = length-drop 47 out ∙ omega arith in
+    let part : take 1016 (drop 47 out) ≡ drop 47 out = take_all 1016 (drop 47 out) (omega arith) in
+    let made = sealed-there key header text (take 1016 (drop 47 out)) ys r a short (omega (arith, ap length part)) in
+    let none : drop 1016 (drop 47 out) ≡ [] = drop_all 1016 (drop 47 out) (omega arith) in
     let rest = drop-drop (length text + 16) 47 out in
     let sum : 47 + (length text + 16) ≡ 63 + length text = omega arith in
     let nil = append-nil (sealed key header text ++ drop (63 + length text) out) in
     cc
 
 -- the header put first, and then the text
-module _ (key header text out put after : List ℕ) (e : put ≡ header ++ drop 47 out) (size : length header ≡ 47)
+module _ (key header text out put after : List ℕ) (e : put ≡ take 0 out ++ (header ++ drop (0 + length header) out)) (size : length header ≡ 47)
     (f : after ≡ take 47 put ++ (sealed key header text ++ drop (63 + length text) put)) where
   all_put : after ≡ (header ++ sealed key header text) ++ drop (63 + length text) out
   all_put =
+      let z : 0 + length header ≡ 47 = omega arith in
+      let is : put ≡ header ++ drop 47 out = e ∙ ap (λ (n : ℕ). header ++ drop n out) z in
       let front = take_at header (drop 47 out) 47 size in
       let rest = drop-append-drop 47 out header (63 + length text) (omega arith) size in
       let group = append_assoc header (sealed key header text) (drop (63 + length text) out) in

@@ -3,7 +3,6 @@ pub mod Ours
 pub mod Views
 pub mod Sends
 pub mod Takes
-pub mod Found
 pub mod Renews
 pub mod Starts
 pub mod Lawful

@@ -1,12 +1,11 @@
 -- What sending comes to.
 -- Assumes nothing.
-use Rattle.std.specs.Prelude.{◌≡◌, ℕ, ◌+◌, List, length, take, drop}
+use Rattle.std.specs.Prelude.{◌≡◌, ℕ, ◌+◌, List, length, take, drop, Ok, Err, Result}
 use Rattle.seal.specs.declared.keys.MessageKey.{MessageKey}
 use Rattle.ratchet.specs.Numbers.{number}
+use Rattle.ratchet.specs.declared.types.Refused.{Refused}
 use Rattle.exchange.specs.Exchanges.{send_text, sent, refused}
 use Rattle.session.specs.declared.sessions.Session.{Session}
-use Rattle.session.specs.declared.sending.Sent.{Sent}
-use Rattle.session.specs.declared.sending.Sent.TheVariants.{Sealed, Refused}
 use Rattle.session.specs.Ours.{AnyBox}
 use Rattle.session.specs.Views.{held_of}
 
@@ -22,6 +21,6 @@ pub record Stays (s t : Session) (text before after : List ℕ) (why : ℕ) : Ty
   pub session : t ≡ s
   pub output : after ≡ before
 
-abbrev pub Sending : Session → (text before after : List ℕ) → Sent → Type 0
-Sending s text before after (Sealed t size) = Leaves s t text before after size
-Sending s text before after (Refused t why) = Stays s t text before after (number why)
+abbrev pub Sending : Session → (text before after : List ℕ) → Result (Session × ℕ) (Refused Session) → Type 0
+Sending s text before after (Ok done) = Leaves s done.0 text before after done.1
+Sending s text before after (Err e) = Stays s e.side text before after (number e.why)

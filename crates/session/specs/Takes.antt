@@ -1,19 +1,19 @@
 -- What taking a message comes to.
 -- Assumes nothing.
-use Rattle.std.specs.Prelude.{◌≡◌, ℕ, ◌≤◌, Bool, List, take, drop}
+use Rattle.std.specs.Prelude.{◌≡◌, ℕ, ◌≤◌, Bool, List, take}
 use Rattle.seal.specs.declared.keys.MessageKey.{MessageKey}
 use Rattle.ratchet.specs.Numbers.{number}
-use Rattle.wire.specs.declared.header.Header.{Header}
+use Rattle.wire.specs.Layout as wire
 use Rattle.exchange.specs.Wire.{Parts}
 use Rattle.exchange.specs.Exchanges as exchange
 use Rattle.session.specs.declared.sessions.Session.{Session}
 use Rattle.session.specs.declared.answers.Taken.{Taken}
+use Rattle.session.specs.declared.incoming.Incoming.{Incoming}
 use Rattle.session.specs.declared.answers.Taken.TheVariants.{Opened, Refused, NoKey}
 use Rattle.session.specs.Views.{held_of, Wiped}
 
--- a message by its header and its bytes
-abbrev pub parts_of : Header → (bytes : List ℕ) → Parts
-parts_of h bytes = record { header = take 47 bytes; message = h.message; half = h.half.0; body = drop 47 bytes }
+abbrev pub parts_of : Incoming → Parts
+parts_of m = wire.parts_of m.header m.bytes.now
 
 -- opened to the text that stands at the front of some bytes; slots that are not in use are zero again, if they were
 pub record Opens (answer : exchange.Taken) (drew : Bool) (s t : Session) (before after : List MessageKey) (text : List ℕ) (size : ℕ) : Type 0 where

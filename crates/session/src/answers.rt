@@ -1,4 +1,4 @@
-// What taking a message comes to.
+// What taking a message comes to: this form is asked for, and not a Result.
 use crate::sessions::Session;
 use ratchet::types::Refusal;
 

@@ -4,7 +4,9 @@ ghost use Rattle.std.specs.Prelude.{◌≡◌};
 use crate::sessions::Session;
 use chain::{ChainKey, RootKey};
 use seal::MessageKey;
+use std::array;
 
+// By a method of its own: `Clone` can fail, and `Copy` would let keys be copied unseen.
 impl Session {
     // A copy of it.
     pub fn copy(&self) -> Session
@@ -24,9 +26,5 @@ impl Session {
 pub fn copy_keys(slots: &[MessageKey; 512]) -> [MessageKey; 512]
     ensures { result ≡ slots.now }
 {
-    let mut copies = crate::blank::no_keys();
-    for i in 0..512usize {
-        copies[i] = MessageKey(slots[i].0);
-    }
-    copies
+    array::from_fn(|i| MessageKey(slots[i].0))
 }

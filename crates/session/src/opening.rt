@@ -1,31 +1,33 @@
 // Opening the text of a message.
-ghost use Rattle.std.specs.Prelude.{◌≡◌, ◌≤◌, length, take, drop, Some, None, MatchOption};
-ghost use Rattle.exchange.specs.Outside.{unseal};
+ghost use Rattle.std.specs.Prelude.{◌≡◌, ◌≤◌, take, Some, None, MatchOption};
 ghost use Rattle.exchange.specs.Held.{blank};
+ghost use Rattle.exchange.specs.Exchanges.{text_under};
 ghost use Rattle.session.specs.Ours.{AnyBox};
+ghost use Rattle.session.specs.Takes.{parts_of};
 
+use crate::incoming::Incoming;
 use seal::{MessageKey, open};
+use wire::HEADER_SIZE;
 
 // Opens the text of a message under a key: it stands at the front of the output, and the answer is its length.
-pub(crate) fn open_text(key: &MessageKey, message: &[u8], text: &mut [u8]) -> Option<usize>
-    requires long { 63 ≤ length message.now }
-    requires short { length message.now ≤ 1063 }
-    requires room { length text.old ≡ 1000 }
-    ensures { MatchOption result (AnyBox (λ o. unseal o key.now.0 (take 47 message.now) (drop 47 message.now) ≡ None)) (λ n. (n ≤ 1000) × AnyBox (λ o. unseal o key.now.0 (take 47 message.now) (drop 47 message.now) ≡ Some (take n text.new))) }
+pub(crate) fn open_text(
+    key: &MessageKey,
+    message: &Incoming,
+    text: &mut [u8; 1000],
+) -> Option<usize>
+    ensures { MatchOption result (AnyBox (λ o. text_under o key.now.0 (parts_of message.now) ≡ None)) (λ n. (n ≤ 1000) × AnyBox (λ o. text_under o key.now.0 (parts_of message.now) ≡ Some (take n text.new))) }
 {
-    let end = message.len();
-    match open(key, &message[0..47], &message[47..end], text) {
-        Ok(size) => Some(size),
-        Err(_) => None,
-    }
+    let (header, body) = message.bytes.split_at(HEADER_SIZE);
+    open(key, header, body, text).ok()
 }
 
 // The same under a key that is used only here, and is blank afterwards.
-pub(crate) fn open_once(key: &mut MessageKey, message: &[u8], text: &mut [u8]) -> Option<usize>
-    requires long { 63 ≤ length message.now }
-    requires short { length message.now ≤ 1063 }
-    requires room { length text.old ≡ 1000 }
-    ensures opens { MatchOption result (AnyBox (λ o. unseal o key.old.0 (take 47 message.now) (drop 47 message.now) ≡ None)) (λ n. (n ≤ 1000) × AnyBox (λ o. unseal o key.old.0 (take 47 message.now) (drop 47 message.now) ≡ Some (take n text.new))) }
+pub(crate) fn open_once(
+    key: &mut MessageKey,
+    message: &Incoming,
+    text: &mut [u8; 1000],
+) -> Option<usize>
+    ensures opens { MatchOption result (AnyBox (λ o. text_under o key.old.0 (parts_of message.now) ≡ None)) (λ n. (n ≤ 1000) × AnyBox (λ o. text_under o key.old.0 (parts_of message.now) ≡ Some (take n text.new))) }
     ensures blank { key.new.0 ≡ blank }
 {
     let opened = open_text(key, message, text);

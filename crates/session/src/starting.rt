@@ -6,28 +6,16 @@ ghost use Rattle.session.specs.Starts.{Starting};
 
 use crate::sessions::Session;
 use chain::{ChainKey, PublicHalf, RootKey, link};
-use keybox::{KeyBox, Renewed, renew};
+use keybox::{KeyBox, KeyError, renew};
 use ratchet::steps::{first_side, second_side};
 
-// What beginning comes to.
-#[derive(Drop)]
-pub enum Start {
-    Begun(Session),
-    // the box has no key to give
-    NoKey,
-    // the box doesn't take the half that came
-    NotTaken,
-}
-
 // Begins as the second side: draws key 0.
-pub fn begin_second<B: KeyBox>(secret: RootKey, own: &mut B) -> Start
-    ensures { Starting B.KeyBox.last_key B.KeyBox.fresh_key B.KeyBox.next_key (λ draw. Some (begin_second (ours B.KeyBox.half_of B.KeyBox.joint_of) draw secret.0)) own.old own.new result }
+pub fn begin_second<B: KeyBox>(secret: RootKey, own: &mut B) -> Result<Session, KeyError>
+    ensures { Starting B.KeyBox.keys (λ draw. Some (begin_second (ours B.KeyBox.scheme) draw secret.0)) own.old own.new result }
 {
-    let Some(half) = own.draw() else {
-        return Start::NoKey;
-    };
+    let half = own.draw().ok_or(KeyError::NoKey)?;
     own.keep();
-    Start::Begun(Session {
+    Ok(Session {
         side: second_side(),
         root: secret,
         sending: ChainKey([0; 32]),
@@ -37,22 +25,21 @@ pub fn begin_second<B: KeyBox>(secret: RootKey, own: &mut B) -> Start
 }
 
 // Begins as the first side: draws key 1, and makes link 0 with the public half of key 0.
-pub fn begin_first<B: KeyBox>(secret: RootKey, theirs: &PublicHalf, own: &mut B) -> Start
-    ensures { Starting B.KeyBox.last_key B.KeyBox.fresh_key B.KeyBox.next_key (λ draw. begin_first (ours B.KeyBox.half_of B.KeyBox.joint_of) draw theirs.now.0 secret.0) own.old own.new result }
+pub fn begin_first<B: KeyBox>(
+    secret: RootKey,
+    theirs: &PublicHalf,
+    own: &mut B,
+) -> Result<Session, KeyError>
+    ensures { Starting B.KeyBox.keys (λ draw. begin_first (ours B.KeyBox.scheme) draw theirs.now.0 secret.0) own.old own.new result }
 {
-    match renew(own, theirs) {
-        Renewed::NoKey => Start::NoKey,
-        Renewed::NotTaken => Start::NotTaken,
-        Renewed::Made(half, joint) => {
-            own.keep();
-            let (root, sending) = link(&secret, &joint);
-            Start::Begun(Session {
-                side: first_side(),
-                root,
-                sending,
-                taking: ChainKey([0; 32]),
-                half,
-            })
-        }
-    }
+    let (half, joint) = renew(own, theirs)?;
+    own.keep();
+    let (root, sending) = link(&secret, &joint);
+    Ok(Session {
+        side: first_side(),
+        root,
+        sending,
+        taking: ChainKey([0; 32]),
+        half,
+    })
 }

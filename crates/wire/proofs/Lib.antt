@@ -1,5 +1,2 @@
 -- Lemmas that several proofs share.
-mod Lawful
-mod Numbers
-mod Shapes
-mod Written
+pub mod Lawful

@@ -4,4 +4,4 @@ use Rattle.keybox.proofs.Named.{half-put}
 use Rattle.keybox.proofs.numbers.half_of.Goals as goal
 
 pub returns : goal.returns
-returns c = half-put c.args.second c.args.draw c.from.result c.copy_from_slice.new.self c.from.ensures (c.copy_from_slice.ensures.after ∙ c.to_be_bytes.ensures)
+returns c = half-put c.args.who c.args.draw c.copy_from_slice.new.self (c.copy_from_slice.ensures.after ∙ c.to_be_bytes.ensures)

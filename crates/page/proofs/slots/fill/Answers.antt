@@ -8,7 +8,7 @@ pub loop-i-init : goal.loop-i-init
 loop-i-init c = sym (keys_none c.args.entries.now)
 
 pub loop-i-preserved : goal.loop-i-preserved
-loop-i-preserved c = filled_more c.loop-i.slots c.args.entries.now c.copy.new.slot c.loop-i.i (omega arith) c.copy.ensures c.loop-i.invariant
+loop-i-preserved c = filled_more c.loop-i.slots c.args.entries.now _ c.loop-i.i (omega arith) c.part_at-slot.ensures c.loop-i.invariant
 
 pub returns : goal.returns
 returns c = filled-all c.loop-i.slots c.args.entries.now c.loop-i.i _ c.loop-i.auto.slots (omega arith) (omega arith) c.loop-i.invariant

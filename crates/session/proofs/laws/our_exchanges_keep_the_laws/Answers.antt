@@ -5,4 +5,4 @@ use Rattle.session.proofs.Kept.{ours-lawful}
 use Rattle.session.proofs.laws.our_exchanges_keep_the_laws.Goals as goal
 
 pub returns : goal.returns
-returns c = λ half_of joint_of boxes. every-exchange (ours half_of joint_of) (ours-lawful half_of joint_of boxes)
+returns c = λ scheme boxes. every-exchange (ours scheme) (ours-lawful scheme boxes)

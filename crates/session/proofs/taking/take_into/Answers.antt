@@ -1,16 +1,11 @@
 -- The text moves to the output, and where it was opened is blank.
-use Rattle.std.proofs.Common.{rules}
-use Rattle.session.proofs.Dispatch.{handed}
+use Rattle.session.proofs.Dispatch.{handed, leaves_short}
 use Rattle.session.proofs.taking.take_into.Goals as goal
 
-pub returns-in-Opened : goal.returns-in-Opened
-returns-in-Opened g c =
-    let box = g.B.KeyBox in
-    record {
-      leaves = c.in-Opened.ensures.leaves;
-      answer = λ k e.
-          handed box.last_key box.fresh_key box.next_key c.args.session c.args.slots.now c.take_read.new.slots _ c.take_read.new.text c.hand_out.new.out c.args.own.now c.take_read.new.own c.in-Opened.next c.in-Opened.size
-          c.hand_out.ensures.text (c.in-Opened.ensures.answer k e);
-      output = c.hand_out.ensures.rest;
-      blank = search rules;
-    }
+pub hand_out-requires : goal.hand_out-requires
+hand_out-requires g c = leaves_short g.B.KeyBox.keys c.args.session c.args.slots.now c.take_read-taken.new.slots c.args.own.now c.take_read-taken.new.own c.take_read-taken.result c.take_read-taken.ensures.leaves
+
+pub returns-clause-answer : goal.returns-clause-answer
+returns-clause-answer g c = λ k e.
+    handed g.B.KeyBox.keys c.args.session c.args.slots.now c.take_read-taken.new.slots _ c.take_read-taken.new.text c.hand_out.new.out c.args.own.now c.take_read-taken.new.own c.take_read-taken.result
+    c.hand_out.ensures.text (c.take_read-taken.ensures.answer k e)

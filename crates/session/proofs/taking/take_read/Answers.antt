@@ -1,60 +1,35 @@
 -- By the tests in their order.
-use Rattle.std.proofs.Common.{◌≡◌, ℕ, ◌-◌, true, false, take, sym, ap, ◌∙◌, arith, eq-eqb}
-use Rattle.ratchet.specs.State.{state_of, has}
-use Rattle.ratchet.specs.Steps as book
-use Rattle.session.specs.Ours.{ours, draw_of}
-use Rattle.session.specs.Views.{held_of}
-use Rattle.session.specs.Takes.{parts_of}
-use Rattle.session.proofs.Dispatch.{by_turn, by_slot, by_link, stepped, step_leaves, taken_as}
+use Rattle.std.proofs.Common.{sym, ◌∙◌, eq-eqb}
+use Rattle.std.proofs.lemmas.Bool.{ne_eqb}
+use Rattle.ratchet.specs.State.{state_of}
+use Rattle.ratchet.proofs.Sought.{mark_there, no_mark}
+use Rattle.session.proofs.Dispatch.{taken_in_turn, taken_recalled, taken_new, taken_nowhere}
 use Rattle.session.proofs.taking.take_read.Goals as goal
 
-pub returns-then-in_turn : goal.returns-then-in_turn
-returns-then-in_turn g c =
-    let box = g.B.KeyBox in
-    let s = c.args.session in
-    let slots = c.args.slots.now in
-    let p = parts_of c.args.header.now c.args.message.now in
-    let step = c.take_in_turn.ensures box.half_of box.joint_of in
-    let turn : book.in_turn (state_of s.side) c.args.header.now.message ≡ true = sym c.in_turn.ensures ∙ c.if-in_turn.true in
-    record {
-      leaves = step_leaves box.last_key box.fresh_key box.next_key s slots c.take_in_turn.new.slots _ c.take_in_turn.new.text c.args.own.now c.take_in_turn.result step;
-      answer = λ k e.
-          stepped box.last_key box.fresh_key box.next_key s slots c.take_in_turn.new.slots _ _
-          (λ fresh. by_turn (ours box.half_of box.joint_of) (draw_of k) (held_of s slots) p fresh turn) c.take_in_turn.new.text c.args.own.now c.take_in_turn.result step;
-    }
+pub returns-then-is_in_turn : goal.returns-then-is_in_turn
+returns-then-is_in_turn g c =
+    let taken = taken_in_turn g.B.KeyBox.keys g.B.KeyBox.scheme c.args.session c.args.message.now c.args.slots.now c.take_in_turn.new.slots c.take_in_turn.new.text c.args.own.now c.take_in_turn.result
+    (sym c.is_in_turn.ensures ∙ c.if-is_in_turn.true) c.take_in_turn.ensures in
+    record { leaves = taken.0; answer = taken.1 }
 
 pub returns-in-Some : goal.returns-in-Some
 returns-in-Some g c =
-    let box = g.B.KeyBox in
-    let s = c.args.session in
-    let slots = c.args.slots.now in
-    let m = c.args.header.now.message in
-    let p = parts_of c.args.header.now c.args.message.now in
-    let step = c.take_recalled.ensures box.half_of box.joint_of in
-    let z : s.side.count - 0 ≡ s.side.count = omega arith in
-    let turn : book.in_turn (state_of s.side) m ≡ false = sym c.in_turn.ensures ∙ c.if-in_turn.false in
-    let aside : has m.mark (take s.side.count s.side.marks) ≡ true = sym (ap (λ (n : ℕ). has m.mark (take n s.side.marks)) z) ∙ c.in-Some.ensures.there in
-    record {
-      leaves = step_leaves box.last_key box.fresh_key box.next_key s slots c.take_recalled.new.slots _ c.take_recalled.new.text c.args.own.now c.take_recalled.result step;
-      answer = λ k e.
-          stepped box.last_key box.fresh_key box.next_key s slots c.take_recalled.new.slots _ _
-          (λ fresh. by_slot (ours box.half_of box.joint_of) (draw_of k) (held_of s slots) p fresh turn aside) c.take_recalled.new.text c.args.own.now c.take_recalled.result step;
-    }
+    let taken = taken_recalled g.B.KeyBox.keys g.B.KeyBox.scheme c.args.session c.args.message.now c.args.slots.now c.take_recalled.new.slots c.take_recalled.new.text c.args.own.now c.take_recalled.result
+    (sym c.is_in_turn.ensures ∙ c.if-is_in_turn.false) (mark_there c.args.message.now.header.message.mark (state_of c.args.session.side).skipped c.in-Some.i (sym c.in-Some.ensures)) c.take_recalled.ensures in
+    record { leaves = taken.0; answer = taken.1 }
 
-pub returns-then-header-session : goal.returns-then-header-session
-returns-then-header-session g c =
-    let box = g.B.KeyBox in
-    let s = c.args.session in
-    let slots = c.args.slots.now in
-    let m = c.args.header.now.message in
-    let p = parts_of c.args.header.now c.args.message.now in
-    let z : s.side.count - 0 ≡ s.side.count = omega arith in
-    let turn : book.in_turn (state_of s.side) m ≡ false = sym c.in_turn.ensures ∙ c.if-in_turn.false in
-    let aside : has m.mark (take s.side.count s.side.marks) ≡ false = sym (ap (λ (n : ℕ). has m.mark (take n s.side.marks)) z) ∙ c.in-None.ensures in
-    let new = eq-eqb m.mark.link s.side.drawn c.if-header-session.true in
-    record {
-      leaves = c.take_new.ensures.leaves;
-      answer = λ k e.
-          taken_as box.last_key box.fresh_key box.next_key s slots c.take_new.new.slots _ _
-          (λ fresh. by_link (ours box.half_of box.joint_of) (draw_of k) (held_of s slots) p fresh turn aside new) c.take_new.new.text c.args.own.now c.take_new.new.own c.take_new.result (c.take_new.ensures.answer k e);
-    }
+pub take_new-requires-clause-aside : goal.take_new-requires-clause-aside
+take_new-requires-clause-aside g c = no_mark c.args.message.now.header.message.mark (state_of c.args.session.side).skipped (sym c.in_default.ensures)
+
+pub returns-then-message-session : goal.returns-then-message-session
+returns-then-message-session g c =
+    let taken = taken_new g.B.KeyBox.keys g.B.KeyBox.scheme c.args.session c.args.message.now c.args.slots.now c.take_new.new.slots c.take_new.new.text c.args.own.now c.take_new.result
+    c.take_new.new.own (sym c.is_in_turn.ensures ∙ c.if-is_in_turn.false) (no_mark c.args.message.now.header.message.mark (state_of c.args.session.side).skipped (sym c.in_default.ensures)) (eq-eqb _ _ c.if-message-session.true)
+    c.take_new.ensures.leaves c.take_new.ensures.answer in
+    record { leaves = taken.0; answer = taken.1 }
+
+pub returns : goal.returns
+returns g c =
+    let taken = taken_nowhere g.B.KeyBox.keys g.B.KeyBox.scheme c.args.session c.args.message.now c.args.slots.now c.args.text.now c.args.own.now
+    (sym c.is_in_turn.ensures ∙ c.if-is_in_turn.false) (no_mark c.args.message.now.header.message.mark (state_of c.args.session.side).skipped (sym c.in_default.ensures)) (ne_eqb _ _ c.if-message-session.false) in
+    record { leaves = taken.0; answer = taken.1 }

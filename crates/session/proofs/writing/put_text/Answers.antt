@@ -3,6 +3,4 @@ use Rattle.session.proofs.Written.{text-put}
 use Rattle.session.proofs.writing.put_text.Goals as goal
 
 pub returns : goal.returns
-returns c =
-    text-put c.args.key.now.0 c.args.header.now c.args.text.now c.args.out.now c.seal.new.out c.seal.result
-    c.requires.short c.requires.room c.seal.ensures
+returns c = text-put c.args.key.now.0 c.args.header.now c.args.text.now c.args.out.now c.seal.new.out c.seal.result c.requires c.told-out c.seal.ensures

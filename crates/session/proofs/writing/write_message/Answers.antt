@@ -12,9 +12,9 @@ returns c =
     let size : length bytes ≡ 47 = omega arith in
     record {
       bytes =
-          message_front key bytes c.args.text.now c.args.out.now c.put_header.new.out c.put_text.new.out c.put_header.ensures size c.put_text.ensures
+          message_front key bytes c.args.text.now c.args.out.now c.put.new.items c.put_text.new.out c.put.ensures size c.put_text.ensures
           ∙ ap (λ (h : List ℕ). h ++ sealed key h c.args.text.now) is;
-      rest = message_rest key bytes c.args.text.now c.args.out.now c.put_header.new.out c.put_text.new.out c.put_header.ensures size c.put_text.ensures;
+      rest = message_rest key bytes c.args.text.now c.args.out.now c.put.new.items c.put_text.new.out c.put.ensures size c.put_text.ensures;
       counted = refl;
       blank = refl;
     }

@@ -1,6 +1,0 @@
-use Rattle.std.proofs.Common.{◌≡◌, false, take}
-use Rattle.ratchet.specs.State.{has}
-use Rattle.session.proofs.recalled.position.Given as goal
-
-abbrev pub invariant-loop-i : goal.invariant-loop-i
-invariant-loop-i l = has l.mark (take l.i l.marks) ≡ false

@@ -2,6 +2,8 @@ use Rattle.ratchet.specs.Blank.{blank}
 use Rattle.exposure.proofs.Adding.{mark_order, order-apart, adds_none, adds_more, adds_all, adds_inserted}
 use Rattle.exposure.proofs.readings.add_all.Goals as goal
 
+pub loop-mark-init : goal.loop-mark-init
+loop-mark-init c = adds_none c.args.set.now.keys
 
 pub loop-mark-preserved : goal.loop-mark-preserved
 loop-mark-preserved c =

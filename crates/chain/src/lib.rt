@@ -3,7 +3,6 @@
 
 mod keys;
 mod links;
-mod wipe;
 
 pub use keys::{ChainKey, JointSecret, PublicHalf, RootKey};
 pub use links::{advance, link, skip, walk};

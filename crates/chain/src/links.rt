@@ -1,25 +1,14 @@
 // The keys of a link: its root and chain, and along the chain the keys of its messages.
-ghost use Rattle.std.specs.Prelude.{◌≡◌, length, take, drop};
+ghost use Rattle.std.specs.Prelude.{length};
 ghost use Rattle.chain.specs.Answers.{Linked, Advanced, Skipped, Walked};
 
 use crate::keys::{ChainKey, JointSecret, RootKey};
-use crate::wipe::wipe;
 use digest::{hkdf, hmac, hmac_pair};
+use octets::{part_at, wipe, work_in};
 use seal::MessageKey;
 
 // What a chain's value is digested with for its value at the next place.
 const NEXT: [u8; 1] = [2];
-
-// The first 32 of 64 bytes, and the others.
-fn halves(both: &[u8; 64]) -> ([u8; 32], [u8; 32])
-    ensures { (result.0 ≡ take 32 both.now) × (result.1 ≡ drop 32 both.now) }
-{
-    let mut first = [0; 32];
-    let mut last = [0; 32];
-    first.copy_from_slice(&both[0..32]);
-    last.copy_from_slice(&both[32..64]);
-    (first, last)
-}
 
 // Begins a link: from root n and the joint secret of keys n and n + 1, root n + 1 and the beginning of link n's chain.
 pub fn link(root: &RootKey, joint: &JointSecret) -> (RootKey, ChainKey)
@@ -28,8 +17,9 @@ pub fn link(root: &RootKey, joint: &JointSecret) -> (RootKey, ChainKey)
     let mut both = [0; 64];
     // 64 bytes are never too many
     let _ = hkdf(&root.0, &joint.0, &[], &mut both);
-    let (mut first, last) = halves(&both);
-    first[0] ^= wipe(&mut both, last[0] as usize);
+    let mut first: [u8; 32] = part_at(&both, 0);
+    let last: [u8; 32] = part_at(&both, 32);
+    work_in(wipe(&mut both, 0, last[0] as usize), &mut first);
     (RootKey(first), ChainKey(last))
 }
 
@@ -58,9 +48,9 @@ pub fn walk(chain: &ChainKey, keys: &mut [MessageKey]) -> ChainKey
     ensures { Walked chain.now.0 (length keys.old) keys.new result.0 }
 {
     let mut at = ChainKey(chain.0);
-    for i in 0..keys.len() {
+    for slot in keys.iter_mut() {
         let (key, next) = advance(&at);
-        keys[i] = key;
+        *slot = key;
         at = next;
     }
     at

@@ -3,89 +3,89 @@
 
 use notation::faults::Fault;
 use script::rehearsal;
-use script::rehearsal::{Ending, View};
+use script::rehearsal::BadScript;
+use script::view::View;
 use stage::player::Player;
-use std::alloc::Global;
 use std::io::{Read, Write};
+use std::process::ExitCode;
 use std::{env, fs, io};
 
-// Where the script is.
-enum Source {
-    Script(Vec<u8>),
+// Why a program ends with status 1.
+#[derive(Drop)]
+enum Failure {
     // the command line is not as it should be
     Usage,
+    Io(io::Error),
+    Bad(BadScript),
+    Fault(Fault),
 }
 
-// The script: the file that is named, or standard input.
-fn read_script(rt: &HostRuntime) -> io::Result<Source> {
+impl From<io::Error> for Failure {
+    fn from(e: io::Error) -> Failure {
+        Failure::Io(e)
+    }
+}
+
+impl From<BadScript> for Failure {
+    fn from(bad: BadScript) -> Failure {
+        Failure::Bad(bad)
+    }
+}
+
+impl From<Fault> for Failure {
+    fn from(fault: Fault) -> Failure {
+        Failure::Fault(fault)
+    }
+}
+
+// The script: the file that is named, or standard input; none where more than one is named, or help is asked for.
+fn read_script(rt: &HostRuntime) -> io::Result<Option<Vec<u8>>> {
     let mut args = env::args(rt)?;
     let _ = args.next();
     let Some(path) = args.next() else {
         let mut script = Vec::new(rt.alloc());
         rt.stdin().read_to_end(&mut script)?;
-        return Ok(Source::Script(script));
+        return Ok(Some(script));
     };
     if args.next().is_some() || path.as_str() == "--help" {
-        return Ok(Source::Usage);
+        return Ok(None);
     }
-    Ok(Source::Script(fs::read(rt, path.as_str())?))
+    Ok(Some(fs::read(rt, path.as_str())?))
 }
 
 // Plays a script to its end, and puts what stands behind it.
-fn play(heap: Global, view: View, script: &[u8], out: &mut Vec<u8>) -> Result<Ending, Fault> {
-    let mut player = Player::new(heap);
-    let ending = rehearsal::play_all(heap, &mut player, view, script, out)?;
-    if let Ending::Whole = ending {
-        rehearsal::put_end(heap, &player, view, out)?;
+fn play(view: View, script: &[u8], out: &mut Vec<u8>) -> Result<Result<(), BadScript>, Fault> {
+    let mut player = Player::new(*out.allocator());
+    let ended = rehearsal::play_all(&mut player, view, script, out)?;
+    if ended.is_ok() {
+        view.put_end(&player, out)?;
     }
-    Ok(ending)
+    Ok(ended)
 }
 
-// Prints what a script prints, and then what is wrong with it, if anything is; says whether it was good.
-fn run(rt: &HostRuntime, view: View, script: &[u8]) -> io::Result<bool> {
+// Prints what a script prints, up to what is wrong with it, if anything is.
+fn run(rt: &HostRuntime, view: View) -> Result<(), Failure> {
+    let script = read_script(rt)?.ok_or(Failure::Usage)?;
     let mut out = Vec::new(rt.alloc());
-    let ending = play(rt.alloc(), view, script, &mut out);
+    let ended = play(view, &script, &mut out);
     rt.stdout().write_all(&out)?;
     rt.stdout().flush()?;
-    match ending {
-        Ok(Ending::Whole) => Ok(true),
-        Ok(Ending::Bad(number, why)) => {
-            let reason = why.reason();
-            eprintln!(rt; "line {number}: {reason}")?;
-            Ok(false)
-        }
-        Err(Fault::Memory) => {
-            eprintln!(rt; "there is no memory left")?;
-            Ok(false)
-        }
-        Err(Fault::TooLong) => {
-            eprintln!(rt; "the script is too long")?;
-            Ok(false)
-        }
-    }
+    ended??;
+    Ok(())
 }
 
-// A whole program: an `Err` ends it with status 1.
-pub fn program(rt: &HostRuntime, name: &str, view: View) -> Result<(), ()> {
-    let script = match read_script(rt) {
-        Ok(Source::Script(script)) => script,
-        Ok(Source::Usage) => {
-            let _ = eprintln!(rt;
-                "usage: {name} [FILE]   (a script; standard input where no FILE is named)"
-            );
-            return Err(());
-        }
-        Err(e) => {
-            let _ = eprintln!(rt; "{name}: {e}");
-            return Err(());
-        }
+// A whole program.
+pub fn program(rt: &HostRuntime, name: &str, view: View) -> ExitCode {
+    let Err(failure) = run(rt, view) else {
+        return ExitCode::SUCCESS;
     };
-    match run(rt, view, &script) {
-        Ok(true) => Ok(()),
-        Ok(false) => Err(()),
-        Err(e) => {
-            let _ = eprintln!(rt; "{name}: {e}");
-            Err(())
-        }
-    }
+    let _ = match failure {
+        Failure::Usage => eprintln!(rt;
+            "usage: {name} [FILE]   (a script; standard input where no FILE is named)"
+        ),
+        Failure::Io(e) => eprintln!(rt; "{name}: {e}"),
+        Failure::Bad(bad) => eprintln!(rt; "{bad}"),
+        Failure::Fault(fault) => eprintln!(rt; "{fault}"),
+    };
+    ExitCode::FAILURE
 }

@@ -1,6 +1,7 @@
 -- The hash value after blocks of a message: a block more, and blocks in two parts.
-use Rattle.std.proofs.Common.{◌≡◌, ℕ, zero, suc, ◌+◌, ◌-◌, ◌*◌, ◌≤◌, List, ◌++◌, length, take, drop, sym, refl, ◌∙◌, add-zero, add-suc, add-one, arith, length-drop}
+use Rattle.std.proofs.Common.{◌≡◌, ℕ, zero, suc, ◌+◌, ◌*◌, ◌<◌, ◌≤◌, List, [], ◌++◌, length, get_or, take, drop, sym, refl, ◌∙◌, add-zero, add-suc, add-one, mul-zero, mul-suc, arith, length-drop}
 use Rattle.std.proofs.lemmas.List.{drop-append-le, drop-drop, take-append-le}
+use Rattle.std.specs.Simd.{first_chunks}
 use Rattle.digest.specs.Sha256.{absorbed, compressed}
 
 pub absorbed-none : (h m : List ℕ) → absorbed h m 0 ≡ h
@@ -11,10 +12,19 @@ pub absorbed-more : (h m : List ℕ) (n : ℕ) → absorbed h m (suc n) ≡ comp
 unfolding absorbed
 absorbed-more h m n = refl
 
--- a loop's step, on the part of the message as the code cuts it
-pub absorb_more : (h m s r : List ℕ) (n : ℕ) → s ≡ absorbed h m n → r ≡ compressed s (take (64 * n + 64 - 64 * n) (drop (64 * n) m)) → r ≡ absorbed h m (n + 1)
-absorb_more h m s r n was here =
-    let size : 64 * n + 64 - 64 * n ≡ 64 = omega arith in
+-- a block, as the code cuts it
+pub chunk-at : (n k : ℕ) (xs : List ℕ) (i : ℕ) → i < k → get_or (first_chunks n k xs) i [] ≡ take n (drop (n * i) xs)
+chunk-at n zero xs i lt = absurd (omega arith)
+chunk-at n (suc k) xs zero lt = rw mul-zero refl
+chunk-at n (suc k) xs (suc i) lt =
+    let later = chunk-at n k (drop n xs) i (omega arith) in
+    let twice = drop-drop (n * i) n xs in
+    let place : n + n * i ≡ n * suc i = omega (arith, mul-suc n i) in
+    cc
+
+-- a loop's step
+pub absorb_more : (h m s b r : List ℕ) (n : ℕ) → s ≡ absorbed h m n → b ≡ take 64 (drop (64 * n) m) → r ≡ compressed s b → r ≡ absorbed h m (n + 1)
+absorb_more h m s b r n was cut here =
     let more = absorbed-more h m n in
     let one = add-one n in
     cc

@@ -31,7 +31,7 @@ two_blocks v a b la lb =
 
 module _ (v p : List ℕ) (u n : ℕ) (len : length p ≡ 64) where
   pub close_one : (p₁ p₂ r : List ℕ) → u < 56
-      → p₁ ≡ take u p ++ (0x80 ∷ replicate (length p - u - 1) 0)
+      → p₁ ≡ take u p ++ (0x80 ∷ replicate (63 - u) 0)
       → p₂ ≡ take 56 p₁ ++ length_bytes n
       → r ≡ compressed v p₂
       → r ≡ absorbed v (take u p ++ padding u n) (length (take u p ++ padding u n) / 64)
@@ -42,7 +42,7 @@ module _ (v p : List ℕ) (u n : ℕ) (len : length p ≡ 64) where
       let lu : length (take u p) ≡ u = length-take-le u p (omega arith) in
       let lr : length (replicate {A = ℕ} k 0) ≡ k = length-replicate k 0 in
       let lq : length q ≡ 56 = length-append (take u p) (0x80 ∷ replicate k 0) ∙ omega arith in
-      let size : length p - u - 1 ≡ k + 8 = omega arith in
+      let size : 63 - u ≡ k + 8 = omega arith in
       let split = replicate-append-replicate {A = ℕ} k 8 0 in
       let join = append_assoc (take u p) (0x80 ∷ replicate k 0) (replicate 8 0) in
       let front = take_at q (replicate 8 0) 56 lq in
@@ -55,7 +55,7 @@ module _ (v p : List ℕ) (u n : ℕ) (len : length p ≡ 64) where
       cc
 
   pub close_two : (p₁ p₂ p₃ f r : List ℕ) → 56 ≤ u → u < 64
-      → p₁ ≡ take u p ++ (0x80 ∷ replicate (length p - u - 1) 0)
+      → p₁ ≡ take u p ++ (0x80 ∷ replicate (63 - u) 0)
       → f ≡ compressed v p₁
       → p₂ ≡ replicate (length p₁) 0
       → p₃ ≡ take 56 p₂ ++ length_bytes n
@@ -66,7 +66,6 @@ module _ (v p : List ℕ) (u n : ℕ) (len : length p ≡ 64) where
       let k : ℕ = 63 - u in
       let lu : length (take u p) ≡ u = length-take-le u p (omega arith) in
       let lr : length (replicate {A = ℕ} k 0) ≡ k = length-replicate k 0 in
-      let size : length p - u - 1 ≡ k = omega arith in
       let q : List ℕ = take u p ++ (0x80 ∷ replicate k 0) in
       let same : p₁ ≡ q = cc in
       let lq : length q ≡ 64 = length-append (take u p) (0x80 ∷ replicate k 0) ∙ omega arith in

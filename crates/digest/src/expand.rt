@@ -4,22 +4,14 @@ ghost use Rattle.digest.specs.Hkdf.{expanded, hkdf_sha_256, most};
 ghost use Rattle.digest.specs.Hmac.{hmac_sha_256};
 ghost use Rattle.digest.specs.Keyed.{Macs};
 
-use crate::buffer::{put, wipe};
 use crate::mac::{Mac, hmac};
+use octets::{put, wipe, work_in};
 
 const MOST: usize = 255 * 32;
 
 // More was asked for than 255 blocks.
 #[derive(Clone, Copy, PartialEq, Eq, Debug)]
 pub struct TooLong;
-
-// The number of a block, counted from 1.
-fn number_of(i: usize) -> u8
-    requires { i < 255 }
-    ensures { result ≡ i + 1 }
-{
-    (i + 1) as u8
-}
 
 // The next block of the expansion, from the one before it and its number.
 fn next_block(start: &Mac, before: &[u8], info: &[u8], number: u8) -> [u8; 32]
@@ -40,15 +32,18 @@ fn expand_key(key: &[u8], info: &[u8], out: &mut [u8])
     start.begin(key);
     let mut block = [0u8; 32];
     let len = out.len();
-    for i in 0..(len + 31) / 32 {
+    // A count of blocks, since of what is written through chunks_mut a proof learns nothing.
+    for i in 0..len.div_ceil(32) {
         let before = (32 * i).min(32);
-        let next = next_block(&start, &block[0..before], info, number_of(i));
+        // counted from 1
+        let number = (i + 1) as u8;
+        let next = next_block(&start, &block[0..before], info, number);
         block = next;
         let size = (len - 32 * i).min(32);
         put(out, 32 * i, &block[0..size]);
     }
     start.wipe();
-    wipe(&mut block);
+    work_in(wipe(&mut block, 0, len), out);
 }
 
 // Fills out with the key material for a salt, an input and an info; more than 255 blocks are refused.
@@ -62,6 +57,6 @@ pub fn hkdf(salt: &[u8], input: &[u8], info: &[u8], out: &mut [u8]) -> Result<()
     }
     let mut key = hmac(salt, input);
     expand_key(&key, info, out);
-    wipe(&mut key);
+    work_in(wipe(&mut key, 0, out.len()), out);
     Ok(())
 }

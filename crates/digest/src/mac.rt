@@ -4,7 +4,6 @@ ghost use Rattle.digest.specs.Hmac.{filled, hmac_sha_256, xored};
 ghost use Rattle.digest.specs.Keyed.{Macs};
 ghost use Rattle.digest.specs.Streaming.{Holds, fresh};
 
-use crate::buffer::wipe;
 use crate::streaming::{Hasher, sha256};
 
 // The byte of the inner pad, and that of the outer one.
@@ -46,10 +45,10 @@ impl Mac {
         if key.len() > 64 {
             let mut digest = sha256(key);
             self.begin_short(&digest);
-            wipe(&mut digest);
-            return;
+            digest.fill(0);
+        } else {
+            self.begin_short(key);
         }
-        self.begin_short(key);
     }
 
     // Takes in the next part of the message.
@@ -76,8 +75,7 @@ impl Mac {
         ensures inner { self.new.inner ≡ fresh }
         ensures outer { self.new.outer ≡ fresh }
     {
-        self.inner = Hasher::new();
-        self.outer = Hasher::new();
+        *self = Mac::blank();
     }
 }
 
@@ -85,9 +83,7 @@ impl Mac {
 pub fn hmac(key: &[u8], message: &[u8]) -> [u8; 32]
     ensures { result ≡ hmac_sha_256 key.now message.now }
 {
-    let mut mac = Mac::blank();
-    mac.begin(key);
-    mac.finish(message)
+    hmac_parts(key, &[], message)
 }
 
 // The HMAC of a message in two parts.

@@ -1,7 +1,9 @@
 -- From which place on a chain is known: one more side, one link after another.
-use Rattle.std.proofs.Common.{◌≡◌, ℕ, zero, suc, ◌+◌, ◌<◌, ◌≤◌, Bool, true, false, ◌&&◌, ◌||◌, leb, List, [], ◌∷◌, ◌++◌, map, length, get_or, take, None, Decides, Option, sym, refl, ap, ◌∙◌, inl, inr, add-one, arith}
+use Rattle.std.proofs.Common.{◌≡◌, ℕ, zero, suc, ◌+◌, ◌<◌, ◌≤◌, Bool, true, false, ◌&&◌, ◌||◌, eqb, leb, List, [], ◌∷◌, ◌++◌, map, length, get_or, take, Some, None, fold, min, Decides, Option, sym, refl, ap, ap₂, ◌∙◌, inl, inr, add-one, arith}
+use Rattle.std.specs.List.{cons_option, filter_map, list_any, reduce}
+use Rattle.std.proofs.lemmas.Grind.{common_steps}
 use Rattle.std.proofs.lemmas.List.{length_push, get_or_push, get_or_append_left, get_or_default, take_more, take_all}
-use Rattle.std.proofs.lemmas.Bool.{cases_eq, le-leb, or_left}
+use Rattle.std.proofs.lemmas.Bool.{cases_eq, cases_Bool, le-leb, eqb-true, ne_eqb, or_left}
 use Rattle.std.proofs.lemmas.Bool.Decides.{Decides-at}
 use Rattle.ratchet.specs.declared.types.Mark.{Mark}
 use Rattle.ratchet.specs.declared.sides.Side.{Side}
@@ -14,7 +16,7 @@ use Rattle.runs.proofs.Bools.{or_false, or_assoc, or_comm}
 use Rattle.runs.proofs.Stocks.{own_read, root_read, key_read}
 use Rattle.runs.proofs.Exposed.{works_key_by, works_chain, works_link, works_link_by, works_root_none, works_root_more}
 use Rattle.runs.proofs.Works.{works_out-decides}
-use Rattle.exposure.specs.Chains.{at_or_after, reaches, Starts}
+use Rattle.exposure.specs.Chains.{at_or_after, start_of, reaches, Starts}
 use Rattle.exposure.proofs.Ors.{or_first, or_second}
 
 -- ### All sides
@@ -75,6 +77,44 @@ module _ (rs : List State) where
   pub from_held : (n i : ℕ) (known held : Bool) → known ≡ works_out (stocks rs) (link_of n) → known ≡ false → held ≡ any_read (reaches n i) rs →
       held ≡ works_out (stocks rs) (chain_at n i)
   from_held n i known held e f h = or_second known held (link_open rs n) _ (e ∙ works_link rs n) f h ∙ sym (works_chain rs n i)
+
+-- ### The earliest place that some side held
+
+min-leb : (p q i : ℕ) → leb (min p q) i ≡ (leb p i || leb q i)
+min-leb p q i = grind (arith, common_steps)
+
+fold-min : (ps : List ℕ) (p i : ℕ) → leb (fold min p ps) i ≡ (leb p i || list_any (λ q. leb q i) ps)
+fold-min [] p i = sym (or_false (leb p i))
+fold-min (q ∷ ps) p i =
+    fold-min ps (min p q) i ∙ (ap (λ b. b || list_any (λ q. leb q i) ps) (min-leb p q i) ∙ or_assoc (leb p i) (leb q i) (list_any (λ q. leb q i) ps))
+
+reduce-min : (ps : List ℕ) (i : ℕ) → at_or_after (reduce min ps) i ≡ list_any (λ q. leb q i) ps
+reduce-min [] i = refl
+reduce-min (p ∷ ps) i = fold-min ps p i
+
+-- a side reaches a place if it held the chain from there or from before
+start-reaches : (n i : ℕ) (s : State) → at_or_after (start_of n s) i ≡ reaches n i s
+start-reaches n i s = elim (cases_Bool (eqb s.drawn (suc n))) [
+  | inl t ↦
+      let u : eqb s.drawn (suc (suc n)) ≡ false = ne_eqb s.drawn (suc (suc n)) (λ h. absurd (omega (arith, eqb-true s.drawn (suc n) t))) in
+      rw (t, u) (sym (or_false (leb s.sent i)))
+  | inr f ↦ rw f (elim (cases_Bool (eqb s.drawn (suc (suc n)))) [ inl t ↦ rw t | inr u ↦ rw u ])
+]
+
+any-cons : (i : ℕ) (o : Option ℕ) (ps : List ℕ) → list_any (λ q. leb q i) (cons_option o ps) ≡ (at_or_after o i || list_any (λ q. leb q i) ps)
+any-cons i None ps = refl
+any-cons i (Some p) ps = refl
+
+any-start : (n i : ℕ) (xs : List Side) → list_any (λ q. leb q i) (filter_map (λ x. start_of n (state_of x)) xs) ≡ any_read (reaches n i) (map state_of xs)
+unfolding any_read
+any-start n i [] = refl
+any-start n i (x ∷ xs) =
+    any-cons i (start_of n (state_of x)) (filter_map (λ x. start_of n (state_of x)) xs)
+    ∙ ap₂ (λ a b. a || b) (start-reaches n i (state_of x)) (any-start n i xs)
+
+pub earliest-reaches : (n i : ℕ) (xs : List Side) (o : Option ℕ) → o ≡ reduce min (filter_map (λ x. start_of n (state_of x)) xs) → at_or_after o i ≡ any_read (reaches n i) (map state_of xs)
+earliest-reaches n i xs o e =
+    ap (λ (p : Option ℕ). at_or_after p i) e ∙ (reduce-min (filter_map (λ x. start_of n (state_of x)) xs) i ∙ any-start n i xs)
 
 -- ### The table
 

@@ -8,7 +8,6 @@ use Rattle.runs.specs.Rule.{any_read, read_at, root_open, link_open, sees}
 use Rattle.runs.proofs.Bools.{or_false, or_assoc, any_same, any_or}
 use Rattle.exposure.specs.Chains.{reaches}
 use Rattle.exposure.specs.Links.{links_to, key_by}
-use Rattle.exposure.specs.Sets.{Aside}
 
 -- does the link below lie open; link 0 has none below it
 unfoldable pub below_open : List State → ℕ → Bool
@@ -65,9 +64,9 @@ module _ (rs : List State) where
   table_length xs n k e l = l ∙ (ap length e ∙ length_links n)
 
   -- a side was read that opens a key by its chain, or one that had it put aside
-  pub seen_by : (m : Mark) → any_read (sees m.link m.place) rs ≡ (any_read (reaches m.link m.place) rs || any_read (λ s. has m s.skipped) rs)
+  seen_by : (m : Mark) → any_read (sees m.link m.place) rs ≡ (any_read (reaches m.link m.place) rs || any_read (λ s. has m s.skipped) rs)
   seen_by m = sym (any_or (reaches m.link m.place) (λ s. has m s.skipped) rs ∙ any_same _ _ (λ s. or_assoc (eqb s.drawn (suc m.link) && leb s.sent m.place) _ _) rs)
 
-  pub seen_from : (xs : List Mark) → Aside rs xs → (m : Mark) (chain aside r : Bool) → chain ≡ any_read (reaches m.link m.place) rs → aside ≡ has m xs → r ≡ key_by chain aside →
+  pub seen_from : (m : Mark) (chain aside r : Bool) → chain ≡ any_read (reaches m.link m.place) rs → aside ≡ any_read (λ s. has m s.skipped) rs → r ≡ key_by chain aside →
       r ≡ any_read (sees m.link m.place) rs
-  seen_from xs table m chain aside r c a e = let t = table m in let s = seen_by m in cc
+  seen_from m chain aside r c a e = let s = seen_by m in cc

@@ -1,8 +1,13 @@
 // What can go wrong, though the input is good.
+ghost use Rattle.std.specs.Prelude.{◌≡◌, Some};
+ghost use Rattle.notation.specs.declared.faults.Fault.TheVariants.{Memory};
+ghost use Rattle.notation.specs.Faults.{fault_text};
+
 use std::alloc::{AllocError, AllocFailed};
+use std::{fmt, io};
 
 // Why a rehearsal can't go on, though its script is good.
-#[derive(Clone, Copy)]
+#[derive(Clone, Copy, Debug, PartialEq, Eq)]
 pub enum Fault {
     // there is no memory
     Memory,
@@ -10,14 +15,38 @@ pub enum Fault {
     TooLong,
 }
 
+impl fmt::Display for Fault {
+    ghost output = { λ f. Some (fault_text f) };
+
+    fn fmt<W: fmt::Write>(&self, f: &mut fmt::Formatter<W>) -> fmt::Result {
+        f.write_str(match self {
+            Fault::Memory => "there is no memory left",
+            Fault::TooLong => "the script is too long",
+        })
+    }
+}
+
 impl From<AllocError> for Fault {
+    ghost from_gives = { λ _ r. r ≡ Memory };
+
     fn from(_e: AllocError) -> Fault {
         Fault::Memory
     }
 }
 
 impl<T: Drop> From<AllocFailed<T>> for Fault {
+    ghost from_gives = { λ _ r. r ≡ Memory };
+
     fn from(_e: AllocFailed<T>) -> Fault {
+        Fault::Memory
+    }
+}
+
+// Output is written to memory, and fails only where there is none.
+impl From<io::Error> for Fault {
+    ghost from_gives = { λ _ r. r ≡ Memory };
+
+    fn from(_e: io::Error) -> Fault {
         Fault::Memory
     }
 }

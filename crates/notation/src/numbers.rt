@@ -7,10 +7,10 @@ fn with_digit(n: Option<u32>, b: u8) -> Option<u32>
     ensures { result ≡ digit_after n b }
 {
     let n = n?;
-    if b < 48 || b > 57 {
+    if !b.is_ascii_digit() {
         return None;
     }
-    n.checked_mul(10)?.checked_add((b - 48) as u32)
+    n.checked_mul(10)?.checked_add((b - b'0') as u32)
 }
 
 // A number of one decimal digit or more, at most 4,294,967,295.
@@ -20,9 +20,5 @@ pub fn parse_number(digits: &[u8]) -> Option<u32>
     if digits.is_empty() {
         return None;
     }
-    let mut n = Some(0u32);
-    for b in digits {
-        n = with_digit(n, *b);
-    }
-    n
+    digits.iter().fold(Some(0u32), |n, b| with_digit(n, *b))
 }

@@ -26,7 +26,7 @@ fn hex_digit(n: u8) -> u8
     requires { n < 16 }
     ensures { result ≡ hex_digit n }
 {
-    if n < 10 { n + 48 } else { n + 87 }
+    if n < 10 { b'0' + n } else { b'a' + (n - 10) }
 }
 
 // The value of a hexadecimal digit.
@@ -34,9 +34,9 @@ fn hex_value(b: u8) -> Option<u8>
     ensures { result ≡ hex_value b }
 {
     match b {
-        48..=57 => Some(b - 48),
-        97..=102 => Some(b - 87),
-        65..=70 => Some(b - 55),
+        b'0'..=b'9' => Some(b - b'0'),
+        b'a'..=b'f' => Some(b - b'a' + 10),
+        b'A'..=b'F' => Some(b - b'A' + 10),
         _ => None,
     }
 }
@@ -45,10 +45,10 @@ fn hex_value(b: u8) -> Option<u8>
 fn put_byte(out: &mut Vec<u8>, b: u8) -> Result<(), Fault>
     ensures { OnOk result (out.new.items ≡ out.old.items ++ escaped_byte b) }
 {
-    if b < 32 || b == 127 || b == 92 {
-        out.extend_from_slice(&[92, 120, hex_digit(b / 16), hex_digit(b % 16)])?;
+    if b < b' ' || b == 127 || b == b'\\' {
+        out.extend_from_slice(&[b'\\', b'x', hex_digit(b / 16), hex_digit(b % 16)])?;
     } else {
-        out.extend_from_slice(&[b])?;
+        out.push(b)?;
     }
     Ok(())
 }
@@ -68,21 +68,12 @@ fn after_byte(escape: Escape, b: u8) -> Escape
     ensures { result ≡ after escape b }
 {
     match escape {
-        Escape::Plain => if b == 92 {
-            Escape::Slash
-        } else {
-            Escape::Plain
-        },
-        Escape::Slash => if b == 120 { Escape::Hex } else { Escape::Bad },
-        Escape::Hex => match hex_value(b) {
-            Some(d) => Escape::Digit(d),
-            None => Escape::Bad,
-        },
-        Escape::Digit(_) => match hex_value(b) {
-            Some(_) => Escape::Plain,
-            None => Escape::Bad,
-        },
-        Escape::Bad => Escape::Bad,
+        Escape::Plain if b == b'\\' => Escape::Slash,
+        Escape::Plain => Escape::Plain,
+        Escape::Slash if b == b'x' => Escape::Hex,
+        Escape::Hex => hex_value(b).map_or(Escape::Bad, |d| Escape::Digit(d)),
+        Escape::Digit(_) => hex_value(b).map_or(Escape::Bad, |_| Escape::Plain),
+        Escape::Slash | Escape::Bad => Escape::Bad,
     }
 }
 
@@ -91,11 +82,8 @@ fn emitted_byte(escape: Escape, b: u8) -> Option<u8>
     ensures { option_to_list result ≡ emitted escape b }
 {
     match escape {
-        Escape::Plain => if b == 92 { None } else { Some(b) },
-        Escape::Digit(h) => match hex_value(b) {
-            Some(d) => Some(h.wrapping_mul(16).wrapping_add(d)),
-            None => None,
-        },
+        Escape::Plain if b != b'\\' => Some(b),
+        Escape::Digit(h) => hex_value(b).map(|d| h.wrapping_mul(16).wrapping_add(d)),
         _ => None,
     }
 }

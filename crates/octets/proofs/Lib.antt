@@ -1,2 +1,4 @@
--- Lemmas of this crate.
-pub mod Compared
+-- Lemmas that several proofs share; Made and Places have those that other crates need.
+mod Compared
+pub mod Made
+pub mod Places

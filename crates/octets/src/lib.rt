@@ -7,4 +7,4 @@ mod wiping;
 
 pub use comparing::same;
 pub use parts::{part_at, put};
-pub use wiping::wipe;
+pub use wiping::{wipe, work_in};

@@ -1,7 +1,7 @@
 // Overwriting of what was secret.
 //
 // A compiler leaves out writes that nothing reads. So one place of what was overwritten is read back, which place the
-// compiler cannot know, and the caller works it into a result: that is right only if it is what was written there.
+// compiler cannot know, and it is worked into a result. That is right only if it is what was written there.
 ghost use Rattle.std.specs.Prelude.{◌≡◌, ◌<◌, length, replicate};
 
 // Overwrites each place with one value, and answers what stands at one of them.
@@ -14,4 +14,14 @@ pub fn wipe<T: Copy>(items: &mut [T], blank: T, place: usize) -> T
         *item = blank;
     }
     items[place % items.len()]
+}
+
+// Works a zero that was read back into a result, which stays as it is.
+pub fn work_in(zero: u8, res: &mut [u8])
+    requires { zero ≡ 0 }
+    ensures { res.new ≡ res.old }
+{
+    if let Some(first) = res.first_mut() {
+        *first ^= zero;
+    }
 }

@@ -2,12 +2,9 @@
 #![tactic(auto)]
 
 use console::program;
-use script::rehearsal::View;
+use script::view::View;
 use std::process::ExitCode;
 
 fn main(rt: HostRuntime) -> ExitCode {
-    match program(&rt, "open", View::Openness) {
-        Ok(()) => ExitCode::SUCCESS,
-        Err(()) => ExitCode::FAILURE,
-    }
+    program(&rt, "open", View::Openness)
 }

@@ -23,7 +23,7 @@ pub struct Side {
     pub before: u32,
     // how many keys are put aside
     pub count: usize,
-    // their marks, in order of link and place, and blanks behind them
+    // their marks, in order of link and place, and blanks behind them: an array beside its count, since a side takes no memory from a heap
     pub marks: [Mark; 512],
     ghost few: { count ≤ 512 },
     ghost rest: { drop count marks ≡ replicate (512 - count) blank },

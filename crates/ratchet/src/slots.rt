@@ -13,6 +13,7 @@ pub(crate) fn put(slots: &mut [Mark], at: usize, link: u32, from: u32, upto: u32
     requires within { at + (upto - from) ≤ length slots.old }
     ensures { slots.new ≡ paste slots.old at (places link from (upto - from)) (upto - from) }
 {
+    // the number is that of a place too, so a chain over the slots would be no plainer
     for i in 0..upto - from {
         let place = from + i;
         slots[at + i as usize] = Mark { link, place };

@@ -16,7 +16,7 @@ pub const LONGEST_TEXT: usize = 1000;
 // The most places of one link that a message may pass over.
 pub const LONGEST_SKIP: u32 = 256;
 
-// What taking a message comes to: this form is asked for, and not a Result.
+// What taking a message comes to. An enum of its own and no Result: that form is asked for.
 #[derive(Clone, Copy)]
 pub enum Taken {
     // the side after it

@@ -4,3 +4,4 @@ pub mod Cases
 pub mod Stock
 pub mod Working
 pub mod Laws
+pub mod Names

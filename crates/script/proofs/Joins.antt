@@ -1,21 +1,16 @@
 -- The parts of a line put together: what is printed, and what is read.
-use Rattle.std.proofs.Common.{◌≡◌, ℕ, ◌+◌, ◌-◌, ◌<◌, true, List, ◌++◌, length, get_or, take, drop, Some, None, vec_len, codes, Option, sym, refl, ap, ◌∙◌, subst, append_assoc}
+use Rattle.std.proofs.Common.{◌≡◌, ℕ, ◌+◌, ◌<◌, List, ◌++◌, length, get_or, take, Some, Ok, vec_len, Option, sym, refl, ap, ◌∙◌, subst, append_assoc}
 use Rattle.std.specs.List.{flat_map}
-use Rattle.std.proofs.lemmas.List.{take_rest, take_more, flat_map_more}
-use Rattle.std.proofs.lemmas.Bool.{cond-true}
+use Rattle.std.proofs.lemmas.List.{take_more, flat_map_more}
 use Rattle.ratchet.specs.declared.types.Mark.{Mark}
 use Rattle.runs.specs.declared.types.Who.{Who}
-use Rattle.script.specs.declared.commands.Command.{Command}
 use Rattle.script.specs.declared.play.Played.TheVariants as played
 use Rattle.stage.specs.declared.player.Player.{Player}
 use Rattle.stage.specs.declared.types.Sending.{Sending}
-use Rattle.script.specs.Commands.{flip_of, deliver_number, deliver_rest, deliver_of}
-use Rattle.notation.specs.Decimals.{number_of}
 use Rattle.notation.specs.Escapes.{unescaped}
 use Rattle.script.specs.Output.{spaced_mark, sending_line}
 use Rattle.script.specs.Played.{SendText, SendLine}
 use Rattle.stage.specs.Players.{SendPlayed}
-use Rattle.notation.specs.Words.{starts, space_at}
 use Rattle.stage.proofs.Deliveries.{letters-length}
 
 -- one part behind another
@@ -26,19 +21,9 @@ append_two a b c d e p q = q ∙ (ap (λ l. l ++ c) p ∙ append_assoc a b c)
 pub marks-more : (bs : List ℕ) (ms : List Mark) (i : ℕ) (d : Mark) → i < length ms → bs ++ flat_map spaced_mark (take i ms) ++ spaced_mark (get_or ms i d) ≡ bs ++ flat_map spaced_mark (take (i + 1) ms)
 marks-more bs ms i d h = flat_map_more spaced_mark bs (take i ms) (get_or ms i d) ∙ ap (λ (l : List Mark). bs ++ flat_map spaced_mark l) (sym (take_more ms i d h))
 
--- a delivery, put together from its parts
-pub delivered-rest : (rest : List ℕ) (e n : ℕ) (r : Option Command) → e ≡ space_at rest → Some n ≡ number_of (take e rest) →
-    r ≡ flip_of n (take (length rest - e) (drop e rest)) → r ≡ deliver_rest rest
-delivered-rest rest e n r at number flip =
-    flip ∙ (ap (flip_of n) (take_rest rest e) ∙ (ap (λ (o : Option ℕ). deliver_number o (drop e rest)) number
-    ∙ ap (λ (i : ℕ). deliver_number (number_of (take i rest)) (drop i rest)) at))
-
-pub delivered-line : (line : List ℕ) (r : Option Command) → starts line (codes "deliver ") ≡ true → r ≡ deliver_rest (take (length line - 8) (drop 8 line)) → r ≡ deliver_of line
-delivered-line line r b e = e ∙ (ap deliver_rest (take_rest line 8) ∙ sym (cond-true (starts line (codes "deliver ")) (deliver_rest (drop 8 line)) None b))
-
 -- a text that was read from a line is the one that is sent
 pub sent-line : (who : Who) (raw text : List ℕ) (p q : Player) (o u : List ℕ) (r : Sending) → Some text ≡ unescaped raw → SendPlayed who text p q r →
-    u ≡ o ++ sending_line (vec_len q.letters) r → SendLine who raw p q o u played.Done
+    u ≡ o ++ sending_line (vec_len q.letters) r → SendLine who raw p q o u (Ok played.Done)
 sent-line who raw text p q o u r e s out =
     let line = out ∙ ap (λ (n : ℕ). o ++ sending_line n r) (sym (letters-length q)) in
-    subst (λ (t : Option (List ℕ)). SendText t who p q o u played.Done) e (refl, (r, record { sent = s; out = line }))
+    subst (λ (t : Option (List ℕ)). SendText t who p q o u (Ok played.Done)) e (refl, (r, record { sent = s; out = line }))

@@ -1,11 +1,13 @@
 -- The lines of a script, word by word.
 -- Assumes nothing.
-use Rattle.std.specs.Prelude.{ℕ, ◌+◌, Bool, true, false, cond, not, ◌||◌, List, length, take, drop, Some, None, codes, Option, ◌==◌, slice_index}
-use Rattle.std.specs.Option.{option_or}
+use Rattle.std.specs.Prelude.{ℕ, ◌+◌, cond, not, ◌||◌, List, length, take, drop, Some, None, codes, Option, ◌==◌, slice_index}
+use Rattle.std.specs.Option.{option_map, option_or}
 use Rattle.runs.specs.declared.types.Who.{Who}
 use Rattle.runs.specs.declared.types.Who.TheVariants.{First, Second}
 use Rattle.script.specs.declared.commands.Command.{Command}
 use Rattle.script.specs.declared.commands.Command.TheVariants.{Nothing, Send, Deliver, Plan, Read, Show}
+use Rattle.stage.specs.declared.types.When.{When}
+use Rattle.stage.specs.declared.types.When.TheVariants.{Before, After}
 use Rattle.notation.specs.Decimals.{number_of}
 use Rattle.notation.specs.Words.{same, starts, space_at, solid}
 
@@ -27,28 +29,21 @@ send_with line words who =
 abbrev pub send_of : List ℕ → Option Command
 send_of line = option_or (send_with line (codes "send first") First) (send_with line (codes "send second") Second)
 
-abbrev pub stop_at : Who → Bool → Option ℕ → Option Command
-stop_at who after None = None
-stop_at who after (Some n) = Some (Plan who (record { write = n; after = after }))
-
-abbrev pub stop_with : List ℕ → List ℕ → Who → Bool → Option Command
-stop_with line words who after = cond (starts line words) (stop_at who after (number_of (drop (length words) line))) None
+abbrev pub stop_with : List ℕ → List ℕ → Who → When → Option Command
+stop_with line words who when =
+    cond (starts line words) (option_map (λ n. Plan who (record { write = n; when = when })) (number_of (drop (length words) line))) None
 
 abbrev pub stop_either : List ℕ → List ℕ → List ℕ → Who → Option Command
-stop_either line before after who = option_or (stop_with line before who false) (stop_with line after who true)
+stop_either line before after who = option_or (stop_with line before who Before) (stop_with line after who After)
 
 abbrev pub stop_of : List ℕ → Option Command
 stop_of line =
     option_or (stop_either line (codes "stop first before ") (codes "stop first after ") First)
     (stop_either line (codes "stop second before ") (codes "stop second after ") Second)
 
-abbrev pub deliver_flipped : ℕ → Option ℕ → Option Command
-deliver_flipped m None = None
-deliver_flipped m (Some b) = Some (Deliver m (Some b))
-
 abbrev pub flip_of : ℕ → List ℕ → Option Command
 flip_of m rest =
-    cond (length rest == 0) (Some (Deliver m None)) (cond (starts rest (codes " flip ")) (deliver_flipped m (number_of (drop 6 rest))) None)
+    cond (length rest == 0) (Some (Deliver m None)) (cond (starts rest (codes " flip ")) (option_map (λ b. Deliver m (Some b)) (number_of (drop 6 rest))) None)
 
 abbrev pub deliver_number : Option ℕ → List ℕ → Option Command
 deliver_number None rest = None

@@ -1,10 +1,11 @@
 // The lines of a script.
-ghost use Rattle.std.specs.Prelude.{◌≡◌, length};
-ghost use Rattle.script.specs.Commands.{quiet_of, read_of, send_of, send_with, stop_at, stop_either, stop_of, stop_with, deliver_flipped, deliver_rest, deliver_of, flip_of, parsed};
+ghost use Rattle.std.specs.Prelude.{◌≡◌};
+ghost use Rattle.script.specs.Commands.{quiet_of, read_of, send_of, send_with, stop_either, stop_of, stop_with, deliver_of, flip_of, parsed};
 
-use notation::words::{begins, is_blank, is_word, number_before, number_behind, space};
+use notation::numbers::parse_number;
+use notation::words::{begins, is_blank, leading_number};
 use runs::types::Who;
-use stage::types::Stop;
+use stage::types::{Stop, When};
 
 // What a line asks for.
 #[derive(Clone, Copy)]
@@ -27,7 +28,7 @@ fn quiet_line(line: &[u8]) -> Option<Command>
     if is_blank(line) || begins(line, b"#") {
         return Some(Command::Nothing);
     }
-    if is_word(line, b"show") {
+    if line == b"show".as_slice() {
         Some(Command::Show)
     } else {
         None
@@ -38,10 +39,10 @@ fn quiet_line(line: &[u8]) -> Option<Command>
 fn read_line(line: &[u8]) -> Option<Command>
     ensures { result ≡ read_of line.now }
 {
-    if is_word(line, b"read first") {
+    if line == b"read first".as_slice() {
         return Some(Command::Read(Who::First));
     }
-    if is_word(line, b"read second") {
+    if line == b"read second".as_slice() {
         Some(Command::Read(Who::Second))
     } else {
         None
@@ -52,17 +53,11 @@ fn read_line(line: &[u8]) -> Option<Command>
 fn send_with(line: &[u8], words: &[u8], from: Who) -> Option<Command>
     ensures { result ≡ send_with line.now words.now from }
 {
-    if !begins(line, words) {
-        return None;
-    }
     let n = words.len();
-    if line.len() == n {
-        return Some(Command::Send(from, n));
-    }
-    if line[n] == 32 {
-        Some(Command::Send(from, n + 1))
-    } else {
-        None
+    match line.strip_prefix(words)?.first() {
+        None => Some(Command::Send(from, n)),
+        Some(b' ') => Some(Command::Send(from, n + 1)),
+        Some(_) => None,
     }
 }
 
@@ -73,31 +68,19 @@ fn send_line(line: &[u8]) -> Option<Command>
     send_with(line, b"send first", Who::First).or(send_with(line, b"send second", Who::Second))
 }
 
-// A stop at a write, if that has a number.
-fn stop_at(who: Who, after: bool, write: Option<u32>) -> Option<Command>
-    ensures { result ≡ stop_at who after write }
+// `stop S before N` or `stop S after N`, by the words before the number.
+fn stop_with(line: &[u8], words: &[u8], who: Who, when: When) -> Option<Command>
+    ensures { result ≡ stop_with line.now words.now who when }
 {
-    match write {
-        Some(write) => Some(Command::Plan(who, Stop { write, after })),
-        None => None,
-    }
-}
-
-// `stop S before N` and `stop S after N`, by the words before the number.
-fn stop_with(line: &[u8], words: &[u8], who: Who, after: bool) -> Option<Command>
-    ensures { result ≡ stop_with line.now words.now who after }
-{
-    if !begins(line, words) {
-        return None;
-    }
-    stop_at(who, after, number_behind(line, words.len()))
+    let write = parse_number(line.strip_prefix(words)?)?;
+    Some(Command::Plan(who, Stop { write, when }))
 }
 
 // The two kinds of stop of one side, by the words of each.
 fn stop_either(line: &[u8], before: &[u8], after: &[u8], who: Who) -> Option<Command>
     ensures { result ≡ stop_either line.now before.now after.now who }
 {
-    stop_with(line, before, who, false).or(stop_with(line, after, who, true))
+    stop_with(line, before, who, When::Before).or(stop_with(line, after, who, When::After))
 }
 
 // `stop S before N` and `stop S after N`
@@ -118,48 +101,23 @@ fn stop_line(line: &[u8]) -> Option<Command>
     ))
 }
 
-// A delivery with a bit turned, if that has a number.
-fn deliver_flipped(number: u32, bit: Option<u32>) -> Option<Command>
-    ensures { result ≡ deliver_flipped number bit }
-{
-    match bit {
-        Some(bit) => Some(Command::Deliver(number, Some(bit))),
-        None => None,
-    }
-}
-
 // What stands behind the message's number in a `deliver`: nothing, or ` flip B`.
 fn flip_part(number: u32, rest: &[u8]) -> Option<Command>
     ensures { result ≡ flip_of number rest.now }
 {
-    if rest.len() == 0 {
+    if rest.is_empty() {
         return Some(Command::Deliver(number, None));
     }
-    if !begins(rest, b" flip ") {
-        return None;
-    }
-    deliver_flipped(number, number_behind(rest, 6))
-}
-
-// What stands behind `deliver `.
-fn deliver_rest(rest: &[u8]) -> Option<Command>
-    ensures { result ≡ deliver_rest rest.now }
-{
-    let end = space(rest);
-    match number_before(rest, end) {
-        Some(number) => flip_part(number, &rest[end..rest.len()]),
-        None => None,
-    }
+    let bit = parse_number(rest.strip_prefix(b" flip ")?)?;
+    Some(Command::Deliver(number, Some(bit)))
 }
 
 // `deliver M`, with `flip B` or without.
 fn deliver_line(line: &[u8]) -> Option<Command>
     ensures { result ≡ deliver_of line.now }
 {
-    if !begins(line, b"deliver ") {
-        return None;
-    }
-    deliver_rest(&line[8..line.len()])
+    let (number, rest) = leading_number(line.strip_prefix(b"deliver ")?)?;
+    flip_part(number, rest)
 }
 
 // Reads a line of a script; none where it is no command.

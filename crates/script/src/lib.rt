@@ -5,3 +5,4 @@ pub mod commands;
 pub mod output;
 pub mod play;
 pub mod rehearsal;
+pub mod view;

@@ -1,6 +1,4 @@
 -- Lemmas that several proofs share; Lengths and Streams have those that other crates need.
-mod Blanks
-mod Compared
 pub mod Lengths
 mod Sealings
 mod Serials

@@ -1,12 +1,12 @@
 -- The stream's definitions, a step at a time.
-use Rattle.std.proofs.Common.{◌≡◌, ℕ, zero, suc, ◌+◌, ◌-◌, ◌*◌, ◌/◌, ◌%◌, ◌^◌, ◌<◌, ◌≤◌, min, List, ◌++◌, length, get_or, take, drop, set, sym, refl, ap, ◌∙◌, inl, inr, add-one, arith, take-add}
+use Rattle.std.proofs.Common.{◌≡◌, ℕ, zero, suc, ◌+◌, ◌-◌, ◌*◌, ◌/◌, ◌%◌, ◌^◌, ◌<◌, ◌≤◌, min, List, ◌++◌, length, get_or, take, drop, sym, refl, ap, ◌∙◌, inl, inr, add-one, arith, take-add}
 use native.Mathlib.Nat.{mod-add-mod}
 use lib.Bits.{bit_xor}
 use lib.Lanes.{zip2}
 use borrow.Rule.Slice.PartMut.{put_mid}
 use Rattle.std.proofs.lemmas.List.{append_assoc, take_at, drop_at, drop-drop, take_all, drop_all, length-take-le, get_or_append_left, get_or-append_right, nil_from_length}
 use Rattle.std.proofs.lemmas.Bool.{cases_lt}
-use Rattle.seal.specs.ChaCha20.{double_rounds, column_rounds, diagonal_rounds, initial, block_of, block, key_stream, blocks, chacha20}
+use Rattle.seal.specs.ChaCha20.{double_rounds, column_rounds, diagonal_rounds, initial, block_of, counted, block, key_stream, blocks, chacha20}
 use Rattle.seal.specs.Streaming.{Counts, Streamed}
 use Rattle.seal.proofs.Lengths.{length-stream, stream_covers}
 use Rattle.seal.proofs.Zips.{zip_append, zip_all, get_d_zip, length_zip, zip_xor_twice}
@@ -38,7 +38,7 @@ key-stream_more : (key nonce : List ℕ) (counter i : ℕ) → key_stream key no
 unfolding key_stream
 key-stream_more key nonce counter i = rw (add-one i)
 
-count-more : (key nonce : List ℕ) (c : ℕ) → set (initial key nonce c) 12 ((get_or (initial key nonce c) 12 0 + 1) % 2 ^ 32) ≡ initial key nonce ((c + 1) % 2 ^ 32)
+count-more : (key nonce : List ℕ) (c : ℕ) → counted (initial key nonce c) ≡ initial key nonce ((c + 1) % 2 ^ 32)
 count-more key nonce c = refl
 
 -- the loop over a text after i blocks: the first 64 * i bytes are done, and the state counts on
@@ -78,7 +78,7 @@ module _ (key nonce : List ℕ) (counter : ℕ) (before text state part : List �
       let s = way.counts in
       cc
 
-  pub under_way_more : (state' : List ℕ) → 64 * i ≤ length before → to ≡ min (64 * i + 64) (length before) → counter + i < 2 ^ 32 → UnderWay key nonce counter before text state i → part ≡ zip2 bit_xor (take (to - 64 * i) (drop (64 * i) text)) (block_of state) → state' ≡ state → UnderWay key nonce counter before (put_mid (64 * i) (to - 64 * i) text part) (set state' 12 ((get_or state' 12 0 + 1) % 2 ^ 32)) (i + 1)
+  pub under_way_more : (state' : List ℕ) → 64 * i ≤ length before → to ≡ min (64 * i + 64) (length before) → counter + i < 2 ^ 32 → UnderWay key nonce counter before text state i → part ≡ zip2 bit_xor (take (to - 64 * i) (drop (64 * i) text)) (block_of state) → state' ≡ counted state → UnderWay key nonce counter before (put_mid (64 * i) (to - 64 * i) text part) state' (i + 1)
   under_way_more state' h end low way is same =
       let count = count-more key nonce ((counter + i) % 2 ^ 32) in
       let wraps = mod-add-mod (counter + i) (2 ^ 32) 1 in

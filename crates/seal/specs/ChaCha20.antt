@@ -61,6 +61,10 @@ block_of s = serialized (zip2 plus (double_rounds 10 s) s)
 abbrev pub block : List ℕ → List ℕ → ℕ → List ℕ
 block key nonce counter = block_of (initial key nonce counter)
 
+-- section 2.4, the state of the next block: the counter goes on by one
+abbrev pub counted : List ℕ → List ℕ
+counted s = slice_set s 12 (plus (slice_index s 12) 1)
+
 -- section 2.4, the first n blocks of the key stream
 unfoldable pub key_stream : List ℕ → List ℕ → ℕ → ℕ → List ℕ
 key_stream key nonce counter zero = []

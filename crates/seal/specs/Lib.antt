@@ -3,4 +3,3 @@ pub mod Answers
 pub mod ChaCha20
 pub mod Sealing
 pub mod Streaming
-pub mod Wiped

@@ -3,36 +3,13 @@ ghost use Rattle.std.specs.Prelude.{◌≡◌, length, Decides};
 ghost use Rattle.seal.specs.ChaCha20.{chacha20};
 ghost use Rattle.seal.specs.Streaming.{Counts, StreamAnswer};
 
-use crate::block::{apply_block, initial_state};
+use crate::block::KeyStream;
 use crate::keys::{MessageKey, Nonce};
-use crate::wipe::{wipe, wipe_words, work_in};
+use octets::{wipe, work_in};
 
 // Says that the counter of a block of the text would pass 32 bits.
-#[derive(Drop)]
+#[derive(Clone, Copy, PartialEq, Eq, Debug)]
 pub struct TooLong;
-
-// The stream over a text, block by block, in memory that is lent for it.
-fn run(
-    state: &mut [u32; 16],
-    words: &mut [u32; 16],
-    pad: &mut [u8; 64],
-    key: &MessageKey,
-    nonce: &Nonce,
-    counter: u32,
-    text: &mut [u8],
-)
-    requires { Counts counter (length text.old) }
-    ensures { text.new ≡ chacha20 key.now.0 nonce.now.0 counter text.old }
-{
-    *state = initial_state(key, nonce, counter);
-    let size = text.len();
-    for i in 0..size.div_ceil(64) {
-        let from = 64 * i;
-        let to = if size - from < 64 { size } else { from + 64 };
-        apply_block(state, words, pad, &mut text[from..to]);
-        state[12] = state[12].wrapping_add(1);
-    }
-}
 
 // Whether the counter of each block of so many bytes fits its word.
 pub(crate) fn counts(counter: u32, size: usize) -> bool
@@ -50,13 +27,17 @@ pub(crate) fn apply(key: &MessageKey, nonce: &Nonce, counter: u32, text: &mut [u
     if size == 0 {
         return;
     }
-    let mut state = [0; 16];
+    let mut stream = KeyStream::new(key, nonce, counter);
     let mut words = [0; 16];
-    let mut pad = [0; 64];
-    run(&mut state, &mut words, &mut pad, key, nonce, counter, text);
+    // A count of blocks, since of what is written through chunks_mut a proof learns nothing.
+    for i in 0..size.div_ceil(64) {
+        let from = 64 * i;
+        let to = size.min(from + 64);
+        stream.apply(&mut words, &mut text[from..to]);
+    }
     // The words' place is a known one, so that they can stay in registers.
-    let left = wipe_words(&mut state, size) | wipe_words(&mut words, 0);
-    work_in(wipe(&mut pad, size) | left as u8, text);
+    let left = wipe(&mut words, 0, 0) as u8;
+    work_in(stream.wipe(size) | left, text);
 }
 
 // Each byte of the text exclusive or the stream's byte at its place. The same call once more undoes it.

@@ -7,7 +7,6 @@ mod keys;
 mod rounds;
 mod sealing;
 mod tagging;
-mod wipe;
 
 pub use cipher::{TooLong, stream};
 pub use keys::{MessageKey, Nonce};

@@ -5,8 +5,9 @@ ghost use Rattle.seal.specs.Sealing.{covered, ExactlySealed};
 ghost use Rattle.seal.specs.Streaming.{Counts};
 
 use crate::cipher::{apply, counts};
-use crate::keys::{MessageKey, Nonce};
-use crate::tagging::{belongs, tag, tag_at};
+use crate::keys::{MessageKey, Nonce, Tag};
+use crate::tagging::{belongs, tag};
+use octets::part_at;
 
 // How many bytes a tag has.
 pub const TAG_SIZE: usize = 16;
@@ -15,7 +16,7 @@ pub const TAG_SIZE: usize = 16;
 const FIRST: u32 = 1;
 
 // Why a text was not sealed.
-#[derive(Clone, Copy)]
+#[derive(Clone, Copy, PartialEq, Eq, Debug)]
 pub enum SealError {
     // The stream is shorter than the text.
     TooLong,
@@ -24,7 +25,7 @@ pub enum SealError {
 }
 
 // Why nothing was opened.
-#[derive(Clone, Copy)]
+#[derive(Clone, Copy, PartialEq, Eq, Debug)]
 pub enum OpenError {
     // The stream is shorter than the text.
     TooLong,
@@ -79,7 +80,7 @@ fn uncover(key: &MessageKey, header: &[u8], body: &[u8], out: &mut [u8]) -> Resu
     if body.len() < TAG_SIZE {
         return Err(OpenError::Forged);
     }
-    if !belongs(key, header, &body[0..size], &tag_at(body, size)) {
+    if !belongs(key, header, &body[0..size], &Tag(part_at(body, size))) {
         return Err(OpenError::Forged);
     }
     cover(key, &body[0..size], &mut out[0..size]);

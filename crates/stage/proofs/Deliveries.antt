@@ -1,5 +1,5 @@
 -- What a device's step is to the world of the two, and how a message is found by its number.
-use Rattle.std.proofs.Common.{◌≡◌, ℕ, ◌-◌, ◌<◌, ◌≤◌, Bool, true, false, cond, ◌&&◌, eqb, leb, ◌⊎◌, length, get_or, IfOk, Ok, Err, vec_items, vec_len, Result, sym, refl, ap, ◌∙◌, subst, inl, inr, arith}
+use Rattle.std.proofs.Common.{◌≡◌, ℕ, ◌-◌, ◌<◌, ◌≤◌, Bool, true, false, cond, ◌&&◌, eqb, leb, ◌⊎◌, length, get_or, IfOk, Ok, Err, vec_items, vec_len, Option, Result, sym, refl, ap, ◌∙◌, subst, inl, inr, arith}
 use Rattle.std.proofs.lemmas.List.{length-map, get_or-map}
 use Rattle.std.proofs.lemmas.Bool.{eq-eqb, ne_eqb, le-leb, lt-leb}
 use Rattle.ratchet.specs.declared.types.Message.{Message}
@@ -8,12 +8,13 @@ use Rattle.ratchet.specs.Steps.{Answer, kept, refused, take}
 use Rattle.runs.specs.declared.types.Who.{Who}
 use Rattle.runs.specs.declared.types.Who.TheVariants.{First, Second}
 use Rattle.runs.specs.World.{Party, among, party, other, performed, take_effects, with_party}
-use Rattle.stage.specs.declared.types.Due.{Due}
+use Rattle.stage.specs.declared.types.When.{When}
 use Rattle.notation.specs.declared.faults.Fault.{Fault}
 use Rattle.stage.specs.declared.types.Taking.{Taking}
 use Rattle.stage.specs.declared.device.Device.{Device}
 use Rattle.stage.specs.declared.player.Letter.{Letter}
 use Rattle.stage.specs.declared.player.Player.{Player}
+use Rattle.stage.specs.Lending.{with_device}
 use Rattle.stage.specs.Plan.{due_next, up_to, carried_out}
 use Rattle.stage.specs.Devices.{party_of, plan_of, TakeDone}
 use Rattle.stage.specs.Players.{world_of, letters_of, post_of, no_post, numbered, is_there, device, Delivered}
@@ -27,14 +28,9 @@ and_true true c e = sym e
 and_true false c e = refl
 
 -- a refused message has no effects, and an accepted one has two
-two-effects : (d : Due) (a : Answer) (m : Message) (p : Party) → carried_out d (take_effects a m) p ≡ performed (up_to d 2) (take_effects a m) p
+two-effects : (d : Option When) (a : Answer) (m : Message) (p : Party) → carried_out d (take_effects a m) p ≡ performed (up_to d 2) (take_effects a m) p
 two-effects d (kept s) m p = refl
 two-effects d (refused n) m p = refl
-
--- the player with another device for one of the two
-abbrev pub with_device : Who → Device → Player → Player
-with_device First d p = record { first = d; second = p.second; readings = p.readings; letters = p.letters }
-with_device Second d p = record { first = p.first; second = d; readings = p.readings; letters = p.letters }
 
 -- what one device did to a message of the other, as a step of the world
 pub delivered : (from : Who) (m : Message) (whole : Bool) (p : Player) (e : Device) (r : Taking) → among m (party from (world_of p)).left ≡ true →
@@ -60,13 +56,14 @@ delivered Second m whole p e r left t =
       letters = refl;
     }
 
--- the same where the sender is known only to be w
-pub handed-over : (from w : Who) → from ≡ w → (m : Message) (whole : Bool) (p : Player) (e : Device) (r : Result Taking Fault) →
-    among m (party from (world_of p)).left ≡ true → IfOk r (TakeDone m whole (device (other w) p) e) → IfOk r (Delivered from m whole p (with_device (other w) e p))
-handed-over from w is m whole p e r left h =
-    let l = subst (λ (x : Who). among m (party x (world_of p)).left ≡ true) is left in
-    subst (λ (x : Who). IfOk r (Delivered x m whole p (with_device (other w) e p))) (sym is)
-    (made-map r (TakeDone m whole (device (other w) p) e) (Delivered w m whole p (with_device (other w) e p)) (λ t. delivered w m whole p e t l) h)
+-- the same of the device that is lent for the other side
+pub handed-over : (from to : Who) → to ≡ other from → (m : Message) (whole : Bool) (p : Player) (d e : Device) (r : Result Taking Fault) → d ≡ device to p →
+    among m (party from (world_of p)).left ≡ true → IfOk r (TakeDone m whole d e) → IfOk r (Delivered from m whole p (with_device to e p))
+handed-over from to is m whole p d e r lent left h =
+    let device-is : d ≡ device (other from) p = lent ∙ ap (λ (w : Who). device w p) is in
+    let taken = subst (λ (x : Device). IfOk r (TakeDone m whole x e)) device-is h in
+    subst (λ (w : Who). IfOk r (Delivered from m whole p (with_device w e p))) (sym is)
+    (made-map r (TakeDone m whole (device (other from) p) e) (Delivered from m whole p (with_device (other from) e p)) (λ t. delivered from m whole p e t left) taken)
 
 -- message n, where there is one, is the letter that stands at n - 1
 pub letters-length : (p : Player) → length (letters_of p) ≡ vec_len p.letters

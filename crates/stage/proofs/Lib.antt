@@ -1,2 +1,1 @@
-mod Clauses
 pub mod Deliveries

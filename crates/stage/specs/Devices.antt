@@ -1,13 +1,13 @@
 -- A device of a rehearsal, seen as a party of a world, and what its steps come to.
 -- Assumes nothing.
-use Rattle.std.specs.Prelude.{◌≡◌, ℕ, Bool, vec_items}
+use Rattle.std.specs.Prelude.{◌≡◌, ℕ, Bool, Some, None, vec_items, Option}
 use Rattle.ratchet.specs.declared.types.Message.{Message}
 use Rattle.ratchet.specs.Numbers.{number}
-use Rattle.ratchet.specs.State.{state_of}
+use Rattle.ratchet.specs.State.{State, state_of}
 use Rattle.ratchet.specs.Steps.{Answer, kept, refused, send, take, message}
 use Rattle.runs.specs.World.{Party, send_effects, take_effects}
-use Rattle.stage.specs.declared.types.Due.{Due}
-use Rattle.stage.specs.declared.types.Due.TheVariants.{Goes, StopsBefore, StopsAfter}
+use Rattle.stage.specs.declared.types.When.{When}
+use Rattle.stage.specs.declared.types.When.TheVariants.{Before, After}
 use Rattle.stage.specs.declared.types.Sending.{Sending}
 use Rattle.stage.specs.declared.types.Sending.TheVariants as sending
 use Rattle.stage.specs.declared.types.Taking.{Taking}
@@ -20,7 +20,7 @@ party_of d =
     record { side = state_of d.page; sealed = vec_items d.sealed; left = vec_items d.left; opened = vec_items d.opened; handed = vec_items d.handed }
 
 abbrev pub plan_of : Device → Plan
-plan_of d = record { writes = d.writes; stops = vec_items d.stops }
+plan_of d = record { writes = d.writes; stops = d.stops.entries }
 
 -- what the outcomes mean: done, lost after the write, stopped before it, or refused by a number
 pub data Outcome : Type 0 where
@@ -29,11 +29,11 @@ pub data Outcome : Type 0 where
   stopped : Outcome
   turned_away : ℕ → Outcome
 
-abbrev pub outcome : Answer → Due → Outcome
+abbrev pub outcome : Answer → Option When → Outcome
 outcome (refused n) d = turned_away n
-outcome (kept s) Goes = done
-outcome (kept s) StopsBefore = stopped
-outcome (kept s) StopsAfter = lost
+outcome (kept s) None = done
+outcome (kept s) (Some Before) = stopped
+outcome (kept s) (Some After) = lost
 
 -- a message that was sealed is told, too
 abbrev pub SendingIs : Message → Outcome → Sending → Type 0
@@ -53,6 +53,12 @@ TakingIs (turned_away n) taking.Opened = ⊥
 TakingIs (turned_away n) taking.Lost = ⊥
 TakingIs (turned_away n) taking.Stopped = ⊥
 TakingIs (turned_away n) (taking.Refused why) = number why ≡ n
+
+-- the page of a side that stopped before its write is the old one
+abbrev pub page_after : Option When → (old new : State) → State
+page_after None old new = new
+page_after (Some Before) old new = old
+page_after (Some After) old new = new
 
 -- only an accepted step writes
 abbrev pub plan_then : Answer → Plan → Plan

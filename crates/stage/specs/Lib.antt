@@ -1,3 +1,4 @@
 pub mod Plan
 pub mod Devices
 pub mod Players
+pub mod Lending

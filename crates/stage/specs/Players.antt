@@ -1,6 +1,7 @@
 -- A rehearsal seen as a world, and what its steps do to it.
 -- Assumes nothing.
-use Rattle.std.specs.Prelude.{◌≡◌, ℕ, ◌+◌, ◌-◌, ◌*◌, Bool, true, false, cond, List, [], ◌∷◌, ◌++◌, map, length, Some, None, vec_items, Option, ◌==◌, nat_le, nat_lt, slice_index_or}
+use Rattle.std.specs.Borrow.{Bor}
+use Rattle.std.specs.Prelude.{◌≡◌, ℕ, ◌+◌, ◌-◌, ◌*◌, Bool, true, false, cond, List, [], ◌∷◌, ◌++◌, map, length, Some, None, Ok, Err, vec_items, Option, Result, ◌==◌, nat_le, nat_lt, slice_index_or}
 use Rattle.ratchet.specs.Same.{no_message}
 use Rattle.ratchet.specs.declared.types.Message.{Message}
 use Rattle.ratchet.specs.State.{state_of}
@@ -8,11 +9,11 @@ use Rattle.ratchet.specs.Steps.{message}
 use Rattle.runs.specs.declared.types.Who.{Who}
 use Rattle.runs.specs.declared.types.Who.TheVariants.{First, Second}
 use Rattle.runs.specs.World.{World, step, sends, takes, party, other, among, send_answer, take_answer}
-use Rattle.stage.specs.declared.types.Due.{Due}
+use Rattle.stage.specs.declared.types.When.{When}
 use Rattle.stage.specs.declared.types.Sending.{Sending}
 use Rattle.stage.specs.declared.types.Sending.TheVariants as sending
-use Rattle.stage.specs.declared.types.Delivery.{Delivery}
-use Rattle.stage.specs.declared.types.Delivery.TheVariants as delivery
+use Rattle.stage.specs.declared.types.NoDelivery.{NoDelivery}
+use Rattle.stage.specs.declared.types.NoDelivery.TheVariants.{NoSuchMessage, NoSuchBit, NeverLeft}
 use Rattle.stage.specs.declared.types.Taking.{Taking}
 use Rattle.stage.specs.declared.device.Device.{Device}
 use Rattle.stage.specs.declared.player.Letter.{Letter}
@@ -40,7 +41,7 @@ device First p = p.first
 device Second p = p.second
 
 -- what the plan of one says of its next write
-abbrev pub due_for : Who → Player → Due
+abbrev pub due_for : Who → Player → Option When
 due_for who p = due_next (plan_of (device who p))
 
 -- a message that was sealed is numbered, whether it left or not
@@ -89,17 +90,25 @@ pub record Delivered (from : Who) (m : Message) (whole : Bool) (p q : Player) (r
 abbrev pub has_left : Post → Player → Bool
 has_left l p = among l.message (party l.from (world_of p)).left
 
+-- a message and its sender, if it can be delivered with that bit turned; else what stands against it, the first that does
+abbrev pub Deliverable : ℕ → Option ℕ → Player → Result (Who × Message) NoDelivery → Type 0
+Deliverable n flip p (Err NoSuchMessage) = is_there n p ≡ false
+Deliverable n flip p (Err NoSuchBit) = (is_there n p ≡ true) × (bit_is_there flip (numbered n p) ≡ false)
+Deliverable n flip p (Err NeverLeft) = (is_there n p ≡ true) × (bit_is_there flip (numbered n p) ≡ true) × (has_left (numbered n p) p ≡ false)
+Deliverable n flip p (Ok t) =
+    (is_there n p ≡ true) × (bit_is_there flip (numbered n p) ≡ true) × (has_left (numbered n p) p ≡ true) ×
+    (t.0 ≡ (numbered n p).from) × (t.1 ≡ (numbered n p).message)
+
 -- what a delivery came to: a message or a bit that there isn't, or a message that never left, and all is as it was; else the other side took it
-abbrev pub DeliveryIs : ℕ → Option ℕ → Player → Player → Delivery → Type 0
-DeliveryIs n flip p q delivery.NoSuchMessage = (is_there n p ≡ false) × (q ≡ p)
-DeliveryIs n flip p q delivery.NoSuchBit = (is_there n p ≡ true) × (bit_is_there flip (numbered n p) ≡ false) × (q ≡ p)
-DeliveryIs n flip p q delivery.NeverLeft = (is_there n p ≡ true) × (bit_is_there flip (numbered n p) ≡ true) × (has_left (numbered n p) p ≡ false) × (q ≡ p)
-DeliveryIs n flip p q (delivery.Taken r) =
+abbrev pub DeliveryIs : ℕ → Option ℕ → Player → Player → Result Taking NoDelivery → Type 0
+DeliveryIs n flip p q (Err NoSuchMessage) = (is_there n p ≡ false) × (q ≡ p)
+DeliveryIs n flip p q (Err NoSuchBit) = (is_there n p ≡ true) × (bit_is_there flip (numbered n p) ≡ false) × (q ≡ p)
+DeliveryIs n flip p q (Err NeverLeft) = (is_there n p ≡ true) × (bit_is_there flip (numbered n p) ≡ true) × (has_left (numbered n p) p ≡ false) × (q ≡ p)
+DeliveryIs n flip p q (Ok r) =
     (is_there n p ≡ true) × (bit_is_there flip (numbered n p) ≡ true) × (has_left (numbered n p) p ≡ true) ×
     Delivered (numbered n p).from (numbered n p).message (whole flip) p q r
 
--- what a look-up of message n found: who sent it, the message, and how long its text is
-abbrev pub Looked : ℕ → Player → Option (Who × Message × ℕ) → Type 0
+-- what a look-up of message n found: the message with who sent it and its text
+abbrev pub Looked : ℕ → Player → Option (Bor Letter) → Type 0
 Looked n p None = is_there n p ≡ false
-Looked n p (Some t) =
-    (is_there n p ≡ true) × (t.0 ≡ (numbered n p).from) × (t.1 ≡ (numbered n p).message) × (t.2 ≡ length (numbered n p).text)
+Looked n p (Some l) = (is_there n p ≡ true) × (post_of l.now ≡ numbered n p)

@@ -1,10 +1,10 @@
 // One side with its file and its history, and the order of what a step does outside its memory: the page first.
 ghost use Rattle.std.specs.Prelude.{◌≡◌};
-ghost use Rattle.ratchet.specs.State.{state_of};
 
-use crate::types::Stop;
+use crate::types::When;
 use ratchet::sides::Side;
 use ratchet::types::Message;
+use std::collections::BTreeMap;
 
 #[derive(Drop)]
 pub struct Device {
@@ -14,8 +14,8 @@ pub struct Device {
     pub page: Side,
     // how many pages it has written
     pub writes: u32,
-    // the stops planned and still to come
-    pub stops: Vec<Stop>,
+    // the stops planned and still to come, by the numbers of their writes
+    pub stops: BTreeMap<u32, When>,
     // the messages sealed with their key, those that left, those that were opened, and those whose text was handed out
     pub sealed: Vec<Message>,
     pub left: Vec<Message>,

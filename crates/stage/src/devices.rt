@@ -1,19 +1,19 @@
 // The steps of a device: the page is written first, and only then is a message sealed, or a text handed out.
-ghost use Rattle.std.specs.Prelude.{◌≡◌, ◌+◌, [], IfOk};
+ghost use Rattle.std.specs.Prelude.{◌≡◌, [], IfOk};
 ghost use Rattle.ratchet.specs.State.{state_of};
 ghost use Rattle.runs.specs.World.{among};
-ghost use Rattle.stage.specs.Devices.{party_of, plan_of, SendDone, TakeDone};
-ghost use Rattle.stage.specs.Plan.{due_next, kept, Planned};
+ghost use Rattle.stage.specs.Devices.{party_of, plan_of, page_after, SendDone, TakeDone};
+ghost use Rattle.stage.specs.Plan.{due_next, plan_after, Planned};
 
 use crate::device::Device;
-use crate::searches;
-use crate::types::{Due, Planning, Sending, Stop, Taking};
+use crate::types::{BadStop, Sending, Stop, Taking, When};
 use notation::faults::Fault;
 use ratchet::sides::Side;
 use ratchet::steps;
-use ratchet::steps::{Sent, Taken};
+use ratchet::steps::Taken;
 use ratchet::types::Message;
 use std::alloc::Global;
+use std::collections::BTreeMap;
 
 impl Device {
     // A side that begins.
@@ -25,7 +25,7 @@ impl Device {
             side,
             page: side,
             writes: 0,
-            stops: Vec::new(heap),
+            stops: BTreeMap::new(heap),
             sealed: Vec::new(heap),
             left: Vec::new(heap),
             opened: Vec::new(heap),
@@ -37,44 +37,25 @@ impl Device {
     pub fn has_left(&self, message: Message) -> bool
         ensures { result ≡ among message self.now.left.items }
     {
-        searches::holds(&self.left, message)
+        self.left.contains(&message)
     }
 
     // Plans a stop, for a write that is to come and has none yet.
-    pub fn plan(&mut self, stop: Stop) -> Result<Planning, Fault>
+    pub fn plan(&mut self, stop: Stop) -> Result<Result<(), BadStop>, Fault>
         ensures plan { IfOk result (Planned stop (plan_of self.old) (plan_of self.new)) }
         ensures party { party_of self.new ≡ party_of self.old }
     {
         if stop.write == 0 {
-            return Ok(Planning::NoSuchWrite);
+            return Ok(Err(BadStop::NoSuchWrite));
         }
         if stop.write <= self.writes {
-            return Ok(Planning::Past);
+            return Ok(Err(BadStop::Past));
         }
-        if searches::position(&self.stops, stop.write).is_some() {
-            return Ok(Planning::SetAlready);
+        if self.stops.contains_key(&stop.write) {
+            return Ok(Err(BadStop::SetAlready));
         }
-        self.stops.push(stop)?;
-        Ok(Planning::Set)
-    }
-
-    // What is planned for the write of this number; the plan is then without it.
-    fn due(&mut self, number: u32) -> Due
-        requires { number ≡ self.old.writes + 1 }
-        ensures value { result ≡ due_next (plan_of self.old) }
-        ensures plan { plan_of self.new ≡ record { writes = self.old.writes; stops = kept number self.old.stops.items } }
-        ensures party { party_of self.new ≡ party_of self.old }
-        ensures page { self.new.page ≡ self.old.page }
-    {
-        let Some(i) = searches::position(&self.stops, number) else {
-            return Due::Goes;
-        };
-        let stop = self.stops.remove(i);
-        if stop.after {
-            Due::StopsAfter
-        } else {
-            Due::StopsBefore
-        }
+        self.stops.insert(stop.write, stop.when)?;
+        Ok(Ok(()))
     }
 
     // Sends a text of so many bytes; the plan may have the side stop before its write, or after it.
@@ -82,19 +63,15 @@ impl Device {
         ensures { IfOk result (SendDone text_length self.old self.new) }
     {
         let (next, message) = match steps::send(self.side, text_length) {
-            Sent::Refused(_, why) => return Ok(Sending::Refused(why)),
-            Sent::Sealed(next, message) => (next, message),
+            Ok(sealed) => sealed,
+            Err(refused) => return Ok(Sending::Refused(refused.why)),
         };
-        let Some(number) = self.writes.checked_add(1) else {
-            return Err(Fault::TooLong);
-        };
-        let due = self.due(number);
-        if let Due::StopsBefore = due {
+        let stop = self.write(next)?;
+        if let Some(When::Before) = stop {
             return Ok(Sending::Stopped);
         }
-        self.write(next, number);
         self.sealed.push(message)?;
-        if let Due::StopsAfter = due {
+        if let Some(When::After) = stop {
             return Ok(Sending::Lost(message));
         }
         self.left.push(message)?;
@@ -109,30 +86,33 @@ impl Device {
             Taken::Refused(_, why) => return Ok(Taking::Refused(why)),
             Taken::Opened(next) => next,
         };
-        let Some(number) = self.writes.checked_add(1) else {
-            return Err(Fault::TooLong);
-        };
-        let due = self.due(number);
-        if let Due::StopsBefore = due {
+        let stop = self.write(next)?;
+        if let Some(When::Before) = stop {
             return Ok(Taking::Stopped);
         }
-        self.write(next, number);
         self.opened.push(message)?;
-        if let Due::StopsAfter = due {
+        if let Some(When::After) = stop {
             return Ok(Taking::Lost);
         }
         self.handed.push(message)?;
         Ok(Taking::Opened)
     }
 
-    // Writes the page of the side after a step; from here on the side is what it says.
-    fn write(&mut self, next: Side, number: u32)
-        ensures after { self.new.page ≡ next }
-        ensures party { party_of self.new ≡ record { side = state_of next; sealed = self.old.sealed.items; left = self.old.left.items; opened = self.old.opened.items; handed = self.old.handed.items } }
-        ensures plan { plan_of self.new ≡ record { writes = number; stops = self.old.stops.items } }
+    // Writes the page of the side after a step, unless a stop is planned before this write; from here on the side is what its page says.
+    // Says what stop was planned for this write; the plan is then without it.
+    fn write(&mut self, next: Side) -> Result<Option<When>, Fault>
+        ensures stop { IfOk result (λ stop. stop ≡ due_next (plan_of self.old)) }
+        ensures plan { IfOk result (λ stop. plan_of self.new ≡ plan_after stop (plan_of self.old)) }
+        ensures party { IfOk result (λ stop. party_of self.new ≡ record (party_of self.old) { side = page_after stop (state_of self.old.page) (state_of next) }) }
     {
+        let number = self.writes.checked_add(1).ok_or(Fault::TooLong)?;
+        let stop = self.stops.remove(&number);
+        if let Some(When::Before) = stop {
+            return Ok(stop);
+        }
         self.page = next;
         self.side = next;
         self.writes = number;
+        Ok(stop)
     }
 }

@@ -5,5 +5,4 @@ pub mod device;
 pub mod devices;
 pub mod player;
 pub mod playing;
-mod searches;
 pub mod types;

@@ -1,14 +1,16 @@
 // The steps of a rehearsal: each is an event of the world that the player holds.
 ghost use Rattle.std.specs.Prelude.{◌≡◌, true, [], ◌∷◌, ◌++◌, map, length, IfOk, OnOk};
 ghost use Rattle.ratchet.specs.State.{state_of};
-ghost use Rattle.runs.specs.World.{start, step, reads, among, party};
+ghost use Rattle.runs.specs.World.{start, step, reads, among, party, other};
 ghost use Rattle.stage.specs.Plan.{Planned};
 ghost use Rattle.stage.specs.Devices.{plan_of};
-ghost use Rattle.stage.specs.Players.{world_of, letters_of, Post, post_of, bit_is_there, device, SendPlayed, Delivered, DeliveryIs, Looked};
+ghost use Rattle.stage.specs.Players.{world_of, letters_of, post_of, bit_is_there, device, SendPlayed, Delivered, Deliverable, DeliveryIs, Looked};
+ghost use Rattle.stage.specs.Lending.{LendsDevice};
+ghost use Rattle.std.specs.Borrow.{sem};
 
 use crate::device::Device;
 use crate::player::{Letter, Player};
-use crate::types::{Delivery, Planning, Sending, Stop, Taking};
+use crate::types::{BadStop, NoDelivery, Sending, Stop, Taking};
 use notation::faults::Fault;
 use ratchet::sides::Side;
 use ratchet::steps;
@@ -32,13 +34,22 @@ fn keep_letter(letters: &mut Vec<Letter>, letter: Letter) -> Result<(), Fault>
     Ok(())
 }
 
-// Is the bit to be turned, if any, in a message whose text has so many bytes.
-fn has_bit(text_length: usize, flip: Option<usize>) -> bool
-    ensures { (l : Post) → length l.text ≡ text_length → result ≡ bit_is_there flip l }
+impl Letter {
+    // Is the bit to be turned, if any, in the message.
+    fn has_bit(&self, flip: Option<usize>) -> bool
+        ensures { result ≡ bit_is_there flip (post_of self.now) }
+    {
+        flip.is_none_or(|bit| bit / 8 < self.text.len().saturating_add(63))
+    }
+}
+
+// The other of the two sides.
+fn other(who: Who) -> Who
+    ensures { result ≡ other who }
 {
-    match flip {
-        None => true,
-        Some(bit) => bit / 8 < text_length.saturating_add(63),
+    match who {
+        Who::First => Who::Second,
+        Who::Second => Who::First,
     }
 }
 
@@ -56,79 +67,68 @@ impl Player {
         }
     }
 
+    // The device of one side.
+    fn device(&self, who: Who) -> &Device
+        ensures { result.now ≡ device who self.now }
+    {
+        match who {
+            Who::First => &self.first,
+            Who::Second => &self.second,
+        }
+    }
+
+    // The device of one side, to be changed.
+    fn device_mut(&mut self, who: Who) -> &mut Device
+        ensures* lends { sem 𝓛 (LendsDevice self.entry who result) }
+        ensures value { result.now ≡ device who self.old }
+    {
+        match who {
+            Who::First => &mut self.first,
+            Who::Second => &mut self.second,
+        }
+    }
+
     // One is read out.
     pub fn read(&mut self, who: Who) -> Result<(), Fault>
         ensures world { OnOk result (world_of self.new ≡ step (reads who) (world_of self.old)) }
         ensures letters { letters_of self.new ≡ letters_of self.old }
     {
-        match who {
-            Who::First => keep_reading(&mut self.readings, self.first.side),
-            Who::Second => keep_reading(&mut self.readings, self.second.side),
-        }
+        let side = self.device(who).side;
+        keep_reading(&mut self.readings, side)
     }
 
     // One sends a text.
     pub fn send(&mut self, from: Who, text: Vec<u8>) -> Result<Sending, Fault>
         ensures { IfOk result (SendPlayed from text.items self.old self.new) }
     {
-        let outcome = match from {
-            Who::First => self.first.send(text.len())?,
-            Who::Second => self.second.send(text.len())?,
-        };
-        match outcome {
-            Sending::Sent(message) => keep_letter(
+        let outcome = self.device_mut(from).send(text.len())?;
+        if let Sending::Sent(message) | Sending::Lost(message) = outcome {
+            keep_letter(
                 &mut self.letters,
                 Letter {
                     from,
                     message,
                     text,
                 },
-            )?,
-            Sending::Lost(message) => keep_letter(
-                &mut self.letters,
-                Letter {
-                    from,
-                    message,
-                    text,
-                },
-            )?,
-            Sending::Stopped => {}
-            Sending::Refused(_) => {}
+            )?;
         }
         Ok(outcome)
     }
 
     // A stop is planned for one.
-    pub fn plan(&mut self, who: Who, stop: Stop) -> Result<Planning, Fault>
+    pub fn plan(&mut self, who: Who, stop: Stop) -> Result<Result<(), BadStop>, Fault>
         ensures plan { IfOk result (Planned stop (plan_of (device who self.old)) (plan_of (device who self.new))) }
         ensures world { world_of self.new ≡ world_of self.old }
         ensures letters { letters_of self.new ≡ letters_of self.old }
     {
-        match who {
-            Who::First => self.first.plan(stop),
-            Who::Second => self.second.plan(stop),
-        }
+        self.device_mut(who).plan(stop)
     }
 
-    // Message `number`: who sent it, what it is, and how long its text is.
-    pub fn find(&self, number: usize) -> Option<(Who, Message, usize)>
+    // Message `number`, counted from 1.
+    pub fn find(&self, number: usize) -> Option<&Letter>
         ensures { Looked number self.now result }
     {
-        if number == 0 || number > self.letters.len() {
-            return None;
-        }
-        let letter = &self.letters[number - 1];
-        Some((letter.from, letter.message, letter.text.len()))
-    }
-
-    // Did a message of one side leave it.
-    fn has_left(&self, from: Who, message: Message) -> bool
-        ensures { result ≡ among message (party from (world_of self.now)).left }
-    {
-        match from {
-            Who::First => self.first.has_left(message),
-            Who::Second => self.second.has_left(message),
-        }
+        self.letters.get(number.checked_sub(1)?)
     }
 
     // A message of one side that left comes to the other.
@@ -136,26 +136,34 @@ impl Player {
         requires { among message (party from (world_of self.old)).left ≡ true }
         ensures { IfOk result (Delivered from message whole self.old self.new) }
     {
-        match from {
-            Who::First => self.second.take(message, whole),
-            Who::Second => self.first.take(message, whole),
+        self.device_mut(other(from)).take(message, whole)
+    }
+
+    // Message `number`, and who sent it, if it can be delivered with this bit turned, if one is named.
+    fn deliverable(&self, number: usize, flip: Option<usize>) -> Result<(Who, Message), NoDelivery>
+        ensures { Deliverable number flip self.now result }
+    {
+        let letter = self.find(number).ok_or(NoDelivery::NoSuchMessage)?;
+        if !letter.has_bit(flip) {
+            return Err(NoDelivery::NoSuchBit);
         }
+        if !self.device(letter.from).has_left(letter.message) {
+            return Err(NoDelivery::NeverLeft);
+        }
+        Ok((letter.from, letter.message))
     }
 
     // The other side takes message `number`, with a bit turned if one is named.
-    pub fn deliver(&mut self, number: usize, flip: Option<usize>) -> Result<Delivery, Fault>
+    pub fn deliver(
+        &mut self,
+        number: usize,
+        flip: Option<usize>,
+    ) -> Result<Result<Taking, NoDelivery>, Fault>
         ensures { IfOk result (DeliveryIs number flip self.old self.new) }
     {
-        let Some((from, message, text_length)) = self.find(number) else {
-            return Ok(Delivery::NoSuchMessage);
-        };
-        if !has_bit(text_length, flip) {
-            return Ok(Delivery::NoSuchBit);
+        match self.deliverable(number, flip) {
+            Ok((from, message)) => Ok(Ok(self.hand_over(from, message, flip.is_none())?)),
+            Err(why) => Ok(Err(why)),
         }
-        if !self.has_left(from, message) {
-            return Ok(Delivery::NeverLeft);
-        }
-        let taking = self.hand_over(from, message, flip.is_none())?;
-        Ok(Delivery::Taken(taking))
     }
 }

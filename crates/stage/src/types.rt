@@ -1,22 +1,21 @@
 // The words of a rehearsal: planned stops, and what its steps come to.
 use ratchet::types::{Message, Refusal};
 
-// A planned stop: before or after the write of this number, counted from 1.
-#[derive(Clone, Copy)]
+// On which side of a write a side of the rehearsal stops.
+#[derive(Clone, Copy, Debug, PartialEq, Eq)]
+pub enum When {
+    Before,
+    After,
+}
+
+// A planned stop, at the write of this number, counted from 1.
+#[derive(Clone, Copy, Debug, PartialEq, Eq)]
 pub struct Stop {
     pub write: u32,
-    pub after: bool,
+    pub when: When,
 }
 
-// What a plan says of one write.
-#[derive(Clone, Copy)]
-pub enum Due {
-    Goes,
-    StopsBefore,
-    StopsAfter,
-}
-
-// What a side's send comes to in a rehearsal.
+// What a side's send comes to in a rehearsal; none of the four is an error, and each has a line of its own in the output.
 #[derive(Clone, Copy)]
 pub enum Sending {
     // it left
@@ -28,7 +27,7 @@ pub enum Sending {
     Refused(Refusal),
 }
 
-// What taking a message comes to in a rehearsal.
+// What taking a message comes to in a rehearsal; none of the four is an error, and each has a line of its own in the output.
 #[derive(Clone, Copy)]
 pub enum Taking {
     // the text was handed out
@@ -40,20 +39,18 @@ pub enum Taking {
     Refused(Refusal),
 }
 
-// What a delivery comes to.
-#[derive(Clone, Copy)]
-pub enum Delivery {
+// Why a message isn't delivered.
+#[derive(Clone, Copy, Debug, PartialEq, Eq)]
+pub enum NoDelivery {
     NoSuchMessage,
     // the bit that was to be turned is not in the message
     NoSuchBit,
     NeverLeft,
-    Taken(Taking),
 }
 
-// What setting a stop comes to.
-#[derive(Clone, Copy)]
-pub enum Planning {
-    Set,
+// Why a stop can't be set.
+#[derive(Clone, Copy, Debug, PartialEq, Eq)]
+pub enum BadStop {
     // writes are counted from 1
     NoSuchWrite,
     // that write has been

@@ -10,7 +10,7 @@ loop-i-init c = refl
 
 pub loop-i-preserved : goal.loop-i-preserved
 unfolding word_bytes
-loop-i-preserved c = write-more c.args.words.now c.loop-i.out c.loop-i.i c.to_be_bytes.result (omega arith) (omega arith) c.loop-i.invariant c.to_be_bytes.ensures
+loop-i-preserved c = write-more c.args.words.now c.loop-i.out _ c.to_be_bytes.result c.loop-i.i (omega arith) (omega arith) c.loop-i.invariant c.to_be_bytes.ensures c.put.ensures
 
 pub returns : goal.returns
 returns c = write-all c.args.words.now c.loop-i.out c.loop-i.i (omega arith) (omega arith) c.loop-i.invariant

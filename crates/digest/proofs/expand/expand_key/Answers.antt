@@ -16,7 +16,7 @@ loop-i-preserved c =
     let i : ℕ = c.loop-i.i in
     let next : List ℕ = c.next_block-next.result in
     let before = ap (λ (n : ℕ). take n c.loop-i.block) (sub-zero c.min-before.result ∙ c.min-before.ensures) ∙ c.loop-i.invariant.1 in
-    let same : next ≡ hkdf_t key info (i + 1) = hkdf_t-more key info _ next i _ before c.number_of.ensures (c.next_block-next.ensures key c.begin.ensures) in
+    let same : next ≡ hkdf_t key info (i + 1) = hkdf_t-more key info _ next i _ before refl (c.next_block-next.ensures key c.begin.ensures) in
     let cut = ap (λ (n : ℕ). take n next) (sub-zero c.min-size.result ∙ c.min-size.ensures) in (
       put_more key info c.loop-i.out next _ _ i (length c.args.out.now) (omega arith) c.loop-i.invariant.0 same cut c.put.ensures (omega arith),
       hkdf_t-whole key info next i same,
@@ -24,4 +24,4 @@ loop-i-preserved c =
     )
 
 pub returns : goal.returns
-returns c = put_all c.args.key.now c.args.info.now c.loop-i.out c.loop-i.i (length c.args.out.now) (omega arith) (omega arith) c.loop-i.invariant.0
+returns c = c.work_in.ensures ∙ put_all c.args.key.now c.args.info.now c.loop-i.out c.loop-i.i (length c.args.out.now) (omega arith) (omega arith) c.loop-i.invariant.0

@@ -7,5 +7,5 @@ pub returns : goal.returns
 unfolding hkdf_sha_256 extracted
 returns c = (
   omega arith,
-  c.expand_key.ensures ∙ ap (λ (k : List ℕ). expanded k c.args.info.now (length c.args.out.now)) c.hmac-key.ensures,
+  c.work_in.ensures ∙ (c.expand_key.ensures ∙ ap (λ (k : List ℕ). expanded k c.args.info.now (length c.args.out.now)) c.hmac-key.ensures),
 )

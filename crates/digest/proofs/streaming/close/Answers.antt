@@ -5,10 +5,10 @@ use Rattle.digest.proofs.streaming.close.Goals as goal
 
 pub returns-then-used-lt56 : goal.returns-then-used-lt56
 returns-then-used-lt56 c =
-    close_one c.args.value.now c.args.last.now c.args.used c.args.bits c.requires.0 _ _ _ (omega arith)
+    close_one c.args.value.now c.args.last.now c.args.used c.args.bits (omega arith) _ _ _ (omega arith)
     c.mark.ensures c.write_length.ensures c.compress.ensures
 
 pub returns : goal.returns
 returns c =
-    close_two c.args.value.now c.args.last.now c.args.used c.args.bits c.requires.0 _ _ _ _ _ (omega arith) (omega arith)
-    c.mark.ensures c.compress-2.ensures c.wipe.ensures c.write_length-2.ensures c.compress-3.ensures
+    close_two c.args.value.now c.args.last.now c.args.used c.args.bits (omega arith) _ _ _ _ _ (omega arith) (omega arith)
+    c.mark.ensures c.compress-2.ensures (c.fill.ensures.after (λ y e. e)) c.write_length-2.ensures c.compress-3.ensures

@@ -1,46 +1,34 @@
-use Rattle.std.proofs.Common.{◌+◌, ◌++◌, map, vec_items, vec_len, sym, refl, ap, ◌∙◌, append-nil, arith, rules}
+use Rattle.std.proofs.Common.{List, ◌++◌, get_or, map, vec_items, sym, refl, ap, ◌∙◌, append-nil}
 use Rattle.ratchet.specs.Blank.{blank}
+use Rattle.ratchet.specs.declared.sides.Side.{Side}
 use Rattle.ratchet.specs.State.{state_of}
-use Rattle.exposure.specs.Links.{links_to}
-use Rattle.exposure.proofs.Upward.{table_length}
-use Rattle.exposure.proofs.Rowing.{agree, rows_none, row_put, rows_all}
+use Rattle.runs.specs.Rule.{exposed}
+use Rattle.runs.specs.Stock.{key_of, stocks}
+use Rattle.runs.specs.Working.{works_out}
+use Rattle.exposure.proofs.Rowing.{agree, rows_none, row_put}
 use Rattle.exposure.proofs.rows.put_rows.Goals as goal
 
-pub returns-in_err-rule : goal.returns-in_err-rule
-returns-in_err-rule c = record { rows = search rules; agree = agree (map state_of c.args.readings.now) }
+pub returns-in_err-rule-clause-agree : goal.returns-in_err-rule-clause-agree
+returns-in_err-rule-clause-agree c = agree (map state_of c.args.readings.now)
 
-pub returns-in_err-workings : goal.returns-in_err-workings
-returns-in_err-workings c = record { rows = search rules; agree = agree (map state_of c.args.readings.now) }
+pub returns-in_err-workings-clause-agree : goal.returns-in_err-workings-clause-agree
+returns-in_err-workings-clause-agree c = agree (map state_of c.args.readings.now)
 
-pub loop-mark-init : goal.loop-mark-init
-loop-mark-init c =
+pub loop-i-init : goal.loop-i-init
+loop-i-init c =
     let out = vec_items c.args.out.now in
-    (refl, sym (append-nil out) ∙ ap (λ l. out ++ l) (sym (rows_none (map state_of c.args.readings.now) 1)))
+    sym (append-nil out) ∙ ap (λ l. out ++ l) (sym (rows_none (map state_of c.args.readings.now) 1))
 
-pub exposed-open-requires : goal.exposed-open-requires
-exposed-open-requires c =
-    let rs = map state_of c.args.readings.now in
-    let links = c.in_ok-rule.rule.links in
-    let items = c.in_ok-rule.ensures.0 in
-    let len = table_length rs (vec_items links) c.links_above-count.result (vec_len links) items links.ok.0 in
-    record { within = omega (arith, len, c.links_above-count.ensures c.loop-mark.mark-index c.loop-mark-test.true); links = items ∙ ap (links_to rs) (sym len); aside = c.in_ok-rule.ensures.1 }
+pub returns-in_err-put_row-clause-agree : goal.returns-in_err-put_row-clause-agree
+returns-in_err-put_row-clause-agree c = agree (map state_of c.args.readings.now)
 
-pub returns-in_err-put_row : goal.returns-in_err-put_row
-returns-in_err-put_row c = record { rows = search rules; agree = agree (map state_of c.args.readings.now) }
+pub loop-i-preserved : goal.loop-i-preserved
+loop-i-preserved c =
+    let m = get_or c.args.marks.now c.loop-i.i blank in
+    let lies_open = c.exposed-open.ensures ∙ ap (λ (l : List Side). exposed (map state_of l) m.link m.place) c.in_ok-rule.ensures.0 in
+    let known = c.known-known.ensures.value ∙ ap (λ (l : List Side). works_out (stocks (map state_of l)) (key_of m)) c.in_ok-workings.ensures.0 in
+    row_put (map state_of c.args.readings.now) (vec_items c.args.out.now) (vec_items c.loop-i.out) (vec_items c.put_row.new.out) c.args.marks.now
+    c.loop-i.i c.loop-i.i blank _ _ c.loop-i-test.true c.loop-i.invariant refl lies_open known c.in_ok-put_row.ensures
 
-pub loop-mark-preserved : goal.loop-mark-preserved
-loop-mark-preserved c =
-    let inv = c.loop-mark.invariant in (
-      ap (λ k. k + 1) inv.0,
-      row_put (map state_of c.args.readings.now) (vec_items c.args.out.now) (vec_items c.loop-mark.out) (vec_items c.put_row.new.out) c.args.marks.now
-          c.loop-mark.mark-index c.loop-mark.number blank _ _ c.loop-mark-test.true inv.1 inv.0 c.exposed-open.ensures c.known-known.ensures.value
-          c.in_ok-put_row.ensures,
-    )
-
-pub returns : goal.returns
-returns c =
-    let rs = map state_of c.args.readings.now in
-    record {
-      rows = rows_all rs (vec_items c.args.out.now) (vec_items c.loop-mark.out) c.args.marks.now c.loop-mark.mark-index c.loop-mark-test.false c.loop-mark.invariant.1;
-      agree = agree rs;
-    }
+pub returns-clause-agree : goal.returns-clause-agree
+returns-clause-agree c = agree (map state_of c.args.readings.now)

@@ -1,10 +1,20 @@
-use Rattle.std.proofs.Common.{arith}
-use Rattle.notation.proofs.Lines.{space_found, space_never}
+use Rattle.std.proofs.Common.{◌≡◌, ℕ, ◌≤◌, cond, eqb, length, Some, None, unwrap_or, Option, ap, ◌∙◌, rules, arith}
+use lib.Dec.{ltb}
+use Rattle.std.specs.List.{position_or_len}
+use Rattle.std.proofs.lemmas.Grind.{common_steps}
+use Rattle.std.proofs.lemmas.List.Sums.{prefix_len-le-length}
+use Rattle.std.proofs.lemmas.Iterator.{YieldsList-from_slice}
+use Rattle.std.proofs.lemmas.Iterator.Search.{position_from_yields_List}
+use borrow.Author.Tests.{tests}
 use Rattle.notation.proofs.words.space.Goals as goal
 
-pub returns-then-b-eq32 : goal.returns-then-b-eq32
-returns-then-b-eq32 c =
-    record { value = space_found c.args.line.now c.loop-i.i c.loop-i-test.true c.loop-i.invariant c.if-b-eq32.true; bound = omega arith }
+-- the place that was found, or else the end
+place_or_end : (p n : ℕ) → p ≤ n → unwrap_or (cond (ltb p n) (Some p) None) n ≡ p
+place_or_end p n h = grind (arith, common_steps)
 
-pub returns : goal.returns
-returns c = record { value = space_never c.args.line.now (λ k h. c.loop-i.invariant k (omega (arith, c.loop-i-test.false))); bound = omega arith }
+pub returns-clause-value : goal.returns-clause-value
+returns-clause-value c =
+    let line = c.args.line.now in
+    let found = position_from_yields_List (λ b. eqb b 32) _ _ c.position.result c.position.ensures.ran (YieldsList-from_slice line cc) (λ x b q k. search (rules, tests)) in
+    c.unwrap_or.ensures ∙ (ap (λ (r : Option ℕ). unwrap_or r (length line)) found
+    ∙ place_or_end (position_or_len (λ b. eqb b 32) line) (length line) (prefix_len-le-length _ line))

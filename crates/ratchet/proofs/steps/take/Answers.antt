@@ -11,16 +11,13 @@ take_recalled-requires-clause-found c =
     let side = c.args.side in
     mark_out c.args.message.mark (take side.count side.marks) c.in-Some.i (sym c.slot_of.ensures ∙ c.in-Some.is)
 
-pub returns-in-Some : goal.returns-in-Some
-returns-in-Some c =
+pub returns-in-Some-clause-answer : goal.returns-in-Some-clause-answer
+returns-in-Some-clause-answer c =
     let side = c.args.side in
     let m = c.args.message in
     let turn : in_turn (state_of side) m ≡ false = sym c.is_in_turn.ensures ∙ c.if-is_in_turn.false in
     let found = mark_there m.mark (take side.count side.marks) c.in-Some.i (sym c.slot_of.ensures ∙ c.in-Some.is) in
-    record {
-      answer = c.take_recalled.ensures.answer ∙ sym (take-recalled c.args.opens (state_of side) m turn found);
-      values = c.take_recalled.ensures.values;
-    }
+    c.take_recalled.ensures.answer ∙ sym (take-recalled c.args.opens (state_of side) m turn found)
 
 pub returns-then-message-side-clause-answer : goal.returns-then-message-side-clause-answer
 returns-then-message-side-clause-answer c =

@@ -14,12 +14,12 @@ invariant_of-result c =
     let new = places c.args.message.mark.link side.taken n in
     record { few = omega arith; rest = grown_rest side.marks _ new side.count n _ (omega arith) (length-places _ _ n) c.put.ensures refl blank 512 side.rest }
 
-pub returns : goal.returns
-returns c =
+pub returns-clause-answer : goal.returns-clause-answer
+returns-clause-answer c =
     let side = c.args.side in
     let n = c.args.message.mark.place - side.taken in
     let size : length side.marks ≡ 512 = search rules in
     let new = places c.args.message.mark.link side.taken n in
     let held = length-take-le side.count side.marks (omega arith) in
     let front = grown_front side.marks _ new side.count n _ (omega arith) (length-places _ _ n) c.put.ensures refl in
-    record { answer = kept_in_turn c.args.opens (state_of side) c.args.message c.if-not-opens.false side.count held (omega arith) (omega arith) (omega arith) _ (cc); values = tt }
+    kept_in_turn c.args.opens (state_of side) c.args.message c.if-not-opens.false side.count held (omega arith) (omega arith) (omega arith) _ (cc)

@@ -20,8 +20,8 @@ invariant_of-result c =
           c.with_new_link-marks.ensures (add_assoc side.count left m.place) blank 512 side.rest;
     }
 
-pub returns : goal.returns
-returns c =
+pub returns-clause-answer : goal.returns-clause-answer
+returns-clause-answer c =
     let side = c.args.side in
     let m = c.args.message.mark in
     let left = c.left_over-left.result in
@@ -33,4 +33,4 @@ returns c =
     c.with_new_link-marks.ensures (add_assoc side.count left m.place) in
     let split = append_assoc (take side.count side.marks) old new in
     let over = c.left_over-left.ensures in
-    record { answer = kept_new c.args.opens (state_of side) c.args.message c.if-not-opens.false side.count held (omega (arith, over)) (omega arith) (omega (arith, over)) (omega arith) _ (cc); values = tt }
+    kept_new c.args.opens (state_of side) c.args.message c.if-not-opens.false side.count held (omega (arith, over)) (omega arith) (omega (arith, over)) (omega arith) _ (cc)

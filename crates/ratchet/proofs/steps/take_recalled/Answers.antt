@@ -1,8 +1,6 @@
 use Rattle.std.proofs.Common.{◌≡◌, length, arith, rules}
 use Rattle.ratchet.specs.Blank.{blank}
-use Rattle.ratchet.specs.State.{state_of}
-use Rattle.ratchet.proofs.TakenOut.{shrunk_front, shrunk_rest}
-use Rattle.ratchet.proofs.Kept.{kept_recalled}
+use Rattle.ratchet.proofs.TakenOut.{shrunk_rest}
 use Rattle.ratchet.proofs.steps.take_recalled.Goals as goal
 
 pub invariant_of-result : goal.invariant_of-result
@@ -10,11 +8,3 @@ invariant_of-result c =
     let side = c.args.side in
     let l : length side.marks ≡ 512 = search rules in
     record { few = omega arith; rest = shrunk_rest side.marks c.take_out.new.slots side.count c.args.i blank c.requires.within (omega arith) c.take_out.ensures 512 (omega arith) side.rest }
-
-pub returns : goal.returns
-returns c =
-    let side = c.args.side in
-    let l : length side.marks ≡ 512 = search rules in
-    let f = shrunk_front side.marks c.take_out.new.slots side.count c.args.i blank c.requires.within (omega arith) c.take_out.ensures in
-    let g = c.requires.found in
-    record { answer = kept_recalled c.args.opens (state_of side) c.args.message c.if-not-opens.false _ (cc); values = tt }

@@ -10,7 +10,7 @@ returns-then-not-belongs c =
       reason = (
         omega (arith, c.counts.ensures.0 c.if-not-counts.false),
         omega arith,
-        λ genuine. other (came_genuine c.args.key.now.0 c.args.header.now c.args.body.now c.saturating_sub-size.result c.saturating_sub-size.ensures c.tag_at.result.0 c.tag_at.ensures genuine),
+        λ genuine. other (came_genuine c.args.key.now.0 c.args.header.now c.args.body.now c.saturating_sub-size.result c.saturating_sub-size.ensures c.part_at.result c.part_at.ensures genuine),
       );
       output = refl;
     }
@@ -21,6 +21,6 @@ returns c =
       counts = c.counts.ensures.0 c.if-not-counts.false;
       counted = omega arith;
       room = omega arith;
-      genuine = genuine_came c.args.key.now.0 c.args.header.now c.args.body.now c.saturating_sub-size.result c.saturating_sub-size.ensures c.tag_at.result.0 (omega arith) c.tag_at.ensures (c.belongs.ensures.0 c.if-not-belongs.false);
+      genuine = genuine_came c.args.key.now.0 c.args.header.now c.args.body.now c.saturating_sub-size.result c.saturating_sub-size.ensures c.part_at.result (omega arith) c.part_at.ensures (c.belongs.ensures.0 c.if-not-belongs.false);
       output = open_written c.args.key.now.0 c.args.header.now c.args.body.now c.saturating_sub-size.result c.saturating_sub-size.ensures c.args.out.now c.cover.new.out c.cover.ensures;
     }

@@ -1,7 +1,0 @@
--- A one bit, and zeros to the end.
-use Rattle.std.proofs.Common.{arith, length-drop, length-set, length-take}
-use Rattle.digest.proofs.Buffers.{mark-mid}
-use Rattle.digest.proofs.buffer.mark.Goals as goal
-
-pub returns : goal.returns
-returns c = mark-mid c.args.bytes.now _ c.args.at _ c.requires c.wipe.ensures (simp (length-take, length-drop, length-set) (omega arith))

@@ -19,7 +19,7 @@ use Rattle.session.specs.declared.incoming.Incoming.{Incoming}
 use Rattle.session.specs.Ours.{AnyBox, ours, draw_of}
 use Rattle.session.specs.Views.{held_of}
 use Rattle.session.specs.Takes.{parts_of, Opens, Stays, Stepped}
-use Rattle.session.specs.Renews.{stayed, drew, Taking, Answers, Leaves, Fronts, Short}
+use Rattle.session.specs.Renews.{stayed, drew, Taking, Answers, Leaves, Fronts}
 
 -- the tests in their order
 module _ (o : Outside) (own : Draw) (h : Held) (p : Parts) (fresh : Option Draw) where
@@ -72,11 +72,6 @@ module _ {B : Type 0} (keys : B → Keys) (s : Session) (before after : List Mes
   handed answer text out box box' (Opened t size) e (drew key d h) = drew key d (moved _ true t text out size e h)
   handed answer text out box box' (Refused t why) e h = h
   handed answer text out box box' (NoKey t) e h = h
-
-  pub leaves_short : (box box' : B) (r : Taken) → Leaves keys s before after box box' r → Short r
-  leaves_short box box' (Opened t size) h = h
-  leaves_short box box' (Refused t why) h = tt
-  leaves_short box box' (NoKey t) h = tt
 
 -- a message that was read, by the test that it passes
 module _ {B : Type 0} (keys : B → Keys) (scheme : Scheme) (s : Session) (m : Incoming) (before after : List MessageKey) (text : List ℕ) (box : B) (r : Taken) where

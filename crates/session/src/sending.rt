@@ -18,12 +18,7 @@ pub fn send(
 {
     let (side, message) = match steps::send(session.side, text.len()) {
         Ok(sent) => sent,
-        Err(refused) => {
-            return Err(Refused {
-                side: session,
-                why: refused.why,
-            });
-        }
+        Err(Refused { why, .. }) => return Err(Refused { side: session, why }),
     };
     let header = Header {
         message,

@@ -1,9 +1,6 @@
 -- The text moves to the output, and where it was opened is blank.
-use Rattle.session.proofs.Dispatch.{handed, leaves_short}
+use Rattle.session.proofs.Dispatch.{handed}
 use Rattle.session.proofs.taking.take_into.Goals as goal
-
-pub hand_out-requires : goal.hand_out-requires
-hand_out-requires g c = leaves_short g.B.KeyBox.keys c.args.session c.args.slots.now c.take_read-taken.new.slots c.args.own.now c.take_read-taken.new.own c.take_read-taken.result c.take_read-taken.ensures.leaves
 
 pub returns-clause-answer : goal.returns-clause-answer
 returns-clause-answer g c = λ k e.

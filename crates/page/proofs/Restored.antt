@@ -1,7 +1,7 @@
 -- Slots that are filled from a page.
-use Rattle.std.proofs.Common.{◌≡◌, ℕ, ◌+◌, ◌-◌, ◌*◌, ◌<◌, ◌≤◌, List, [], ◌++◌, map, length, take, drop, set, replicate, ap, ◌∙◌, arith}
+use Rattle.std.proofs.Common.{◌≡◌, ℕ, ◌+◌, ◌*◌, ◌<◌, ◌≤◌, List, ◌++◌, map, length, take, drop, set, replicate, ap, ◌∙◌, arith}
 use borrow.Rule.Slice.PartMut.{put_mid}
-use Rattle.std.proofs.lemmas.List.{append-nil, take_all, take_at, drop_all, take_more_set, length-append, length-drop, map_push, replicate_more}
+use Rattle.std.proofs.lemmas.List.{take_all, take_at, take_more_set, map_push, replicate_more}
 use Rattle.seal.specs.declared.keys.MessageKey.{MessageKey}
 use Rattle.exchange.specs.Held.{blank}
 use Rattle.session.specs.Views.{key_in}

@@ -1,6 +1,6 @@
 -- The keys put aside, as bytes.
-use Rattle.std.proofs.Common.{◌≡◌, ℕ, ◌+◌, ◌*◌, ◌<◌, ◌≤◌, List, [], ◌∷◌, ◌++◌, map, length, get_or, take, drop, sym, refl, ap, ◌∙◌, arith, length-append, length-drop}
-use Rattle.std.proofs.lemmas.List.{append_assoc, append-nil, take_at, take_all, take_more, map_more, length-take-le, length-map}
+use Rattle.std.proofs.Common.{◌≡◌, ℕ, ◌+◌, ◌*◌, ◌<◌, List, [], ◌∷◌, ◌++◌, map, length, get_or, take, drop, sym, refl, ap, ◌∙◌, arith, length-append, length-drop}
+use Rattle.std.proofs.lemmas.List.{append_assoc, append-nil, take_at, take_more, map_more, length-take-le, length-map}
 use Rattle.ratchet.specs.declared.types.Mark.{Mark}
 use Rattle.seal.specs.declared.keys.MessageKey.{MessageKey}
 use Rattle.session.specs.Views.{key_in}
@@ -40,12 +40,4 @@ aside-more ms ks was now i at m k h e size kept here im ik so_far put =
     let same : length (map key_in (take i ks)) ≡ length (take i ms) =
     length-map (take i ks) key_in ∙ (length-take-le i ks (omega arith) ∙ sym (length-take-le i ms (omega arith))) in
     let more = aside-push (take i ms) (map key_in (take i ks)) m k.0 same in
-    cc
-
-pub aside-all : (ms : List Mark) (ks : List MessageKey) (now : List ℕ) (i at : ℕ) → length ms ≤ i → length ks ≡ length ms → length now ≡ 40 * length ms → at ≡ 40 * i →
-    take at now ≡ aside_bytes (take i ms) (map key_in (take i ks)) → now ≡ aside_bytes ms (map key_in ks)
-aside-all ms ks now i at h e size here inv =
-    let a = take_all at now (omega arith) in
-    let b = take_all i ms h in
-    let c = take_all i ks (omega arith) in
     cc

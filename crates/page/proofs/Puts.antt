@@ -1,13 +1,13 @@
 -- Parts put one behind another at the front of some bytes.
 use Rattle.std.proofs.Common.{◌≡◌, ℕ, ◌+◌, ◌-◌, ◌*◌, ◌≤◌, List, [], ◌∷◌, ◌++◌, length, take, drop, refl, ap, ◌∙◌, arith, length-append, length-drop}
 use Rattle.std.proofs.lemmas.List.{append_assoc, take_at, drop_at}
-use Rattle.std.proofs.lemmas.Slice.{drop-append-drop}
+use Rattle.std.proofs.lemmas.List.Edits.{paste_all}
+use Rattle.std.proofs.lemmas.Slice.{drop-append-drop, put_mid-paste}
 use Rattle.ratchet.specs.State.{State}
 use Rattle.exchange.specs.Wire.{four_bytes, two_bytes}
 use Rattle.exchange.specs.Held.{Held}
 use borrow.Rule.Slice.PartMut.{put_mid}
 use Rattle.digest.specs.Sha256.{sha_256}
-use Rattle.digest.proofs.Buffers.{put_mid_lem}
 use Rattle.page.specs.Layout.{count_bytes, front_bytes, aside_bytes, body_bytes}
 
 -- a part put behind the front that stands so far; what is behind both is as it was
@@ -84,7 +84,7 @@ body-put h was p q part n count size en ep eq is long =
     let q' = put_next was p q (front_bytes h) n two 145 147 en size refl ep eq in
     let l = length-behind (front_bytes h) two 145 2 size refl in
     put_next was q _ (front_bytes h ++ two) part (aside_bytes h.state.skipped h.keys) 147 (147 + 40 * count) is l (omega (arith, ap length is)) q'
-    (put_mid_lem 147 _ q part part refl (omega arith))
+    (put_mid-paste 147 _ q part part (length part) refl (omega arith) refl ∙ paste_all q 147 part (length part) refl)
 
 -- a body and its digest, at the front of an output
 module _ (was before after body digest : List ℕ) (end : ℕ) (size : length body ≡ end) (few : length digest ≡ 32) (so_far : before ≡ body ++ drop end was)

@@ -1,9 +1,8 @@
 -- Slots that are filled from a page.
-use Rattle.std.proofs.Common.{◌≡◌, ℕ, ◌+◌, ◌-◌, ◌*◌, ◌<◌, ◌≤◌, List, [], ◌++◌, map, length, take, drop, set, replicate, ap, ◌∙◌, arith}
+use Rattle.std.proofs.Common.{◌≡◌, ℕ, ◌+◌, ◌*◌, ◌<◌, List, ◌++◌, map, length, take, drop, set, ap, ◌∙◌}
 use borrow.Rule.Slice.PartMut.{put_mid}
-use Rattle.std.proofs.lemmas.List.{append-nil, take_all, take_at, drop_all, take_more_set, length-append, length-drop, map_push, replicate_more}
+use Rattle.std.proofs.lemmas.List.{take_at, take_more_set, map_push}
 use Rattle.seal.specs.declared.keys.MessageKey.{MessageKey}
-use Rattle.exchange.specs.Held.{blank}
 use Rattle.session.specs.Views.{key_in}
 use Rattle.page.specs.Parts.{keys_in}
 use Rattle.page.proofs.Parsed.{keys-more}
@@ -15,26 +14,6 @@ filled_more slots b k i h is so_far =
     let more = keys-more i b in
     let put = take_more_set slots i k h in
     let pushed = map_push key_in (take i slots) k in
-    cc
-
--- one more zero
-pub cleared_more : (slots : List MessageKey) (i : ℕ) → i < length slots → take i slots ≡ replicate i (record { 0 = blank }) →
-    take (i + 1) (set slots i (record { 0 = blank })) ≡ replicate (i + 1) (record { 0 = blank })
-cleared_more slots i h so_far =
-    let put = take_more_set slots i (record { 0 = blank }) h in
-    let more = replicate_more {X = MessageKey} i (record { 0 = blank }) in
-    cc
-
-pub filled-all : (slots : List MessageKey) (b : List ℕ) (i n : ℕ) → length slots ≡ n → n ≤ i → i ≤ n → map key_in (take i slots) ≡ keys_in i b → map key_in slots ≡ keys_in n b
-filled-all slots b i n e h k so_far =
-    let all = take_all i slots (omega arith) in
-    let same : i ≡ n = omega arith in
-    cc
-
-pub cleared_all : (slots : List MessageKey) (i n : ℕ) → length slots ≡ n → n ≤ i → i ≤ n → take i slots ≡ replicate i (record { 0 = blank }) → slots ≡ replicate n (record { 0 = blank })
-cleared_all slots i n e h k so_far =
-    let all = take_all i slots (omega arith) in
-    let same : i ≡ n = omega arith in
     cc
 
 -- the first slots filled, whatever is put behind them

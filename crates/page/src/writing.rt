@@ -42,7 +42,7 @@ fn put_body(session: &Session, slots: &[MessageKey; 512], out: &mut [u8; 20659])
     end
 }
 
-// Writes the page of a side to the front of an output, and answers its length.
+// Writes the page of a side to the front of an output, which is lent, as asked for; so the answer is its length.
 pub fn write_page(session: &Session, slots: &[MessageKey; 512], out: &mut [u8; 20659]) -> usize
     ensures page { take result out.new ≡ page_bytes (held_of session.now slots.now) }
     ensures rest { drop result out.new ≡ drop result out.old }

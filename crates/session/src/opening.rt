@@ -9,7 +9,7 @@ use crate::incoming::Incoming;
 use seal::{MessageKey, open};
 use wire::HEADER_SIZE;
 
-// Opens the text of a message under a key: it stands at the front of the output, and the answer is its length.
+// Opens the text of a message under a key: it stands at the front of the output, which is lent, as asked for; so the answer is its length.
 pub(crate) fn open_text(
     key: &MessageKey,
     message: &Incoming,

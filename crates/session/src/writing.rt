@@ -17,7 +17,7 @@ fn put_text(key: &MessageKey, header: &[u8; 47], text: &[u8], out: &mut [u8; 106
     let _ = seal(key, header, text, &mut out[HEADER_SIZE..]);
 }
 
-// Writes a whole message to the front of an output, and answers its length; its key is blank afterwards.
+// Writes a whole message to the front of an output, which is lent, as asked for; so the answer is its length. Its key is blank afterwards.
 pub(crate) fn write_message(
     key: &mut MessageKey,
     header: &Header,

@@ -1,9 +1,9 @@
 -- One entry behind another.
 use Rattle.std.proofs.Common.{◌≡◌, ℕ, ◌+◌, [], ◌∷◌, map, length, take, sym, refl, subst, arith, rules, length-append}
-use Rattle.std.proofs.lemmas.Slice.Zip.{zip_turn, zip_end}
+use Rattle.std.proofs.lemmas.Slice.Zip.{zip_turn}
 use Rattle.session.specs.Views.{key_in}
 use Rattle.page.specs.Layout.{aside_bytes}
-use Rattle.page.proofs.Entries.{aside_none, aside-more, aside-all}
+use Rattle.page.proofs.Entries.{aside_none, aside-more}
 use Rattle.page.proofs.putting.put_aside.Goals as goal
 
 pub loop-mark-init : goal.loop-mark-init
@@ -24,9 +24,3 @@ loop-mark-preserved c =
       so_far = subst (λ (n : ℕ). take (c.loop-mark.at + 40) c.put_entry.new.out ≡ aside_bytes (take n ms) (map key_in (take n ks))) (sym one_more) put;
       within = omega (arith, one_more, turn.0);
     }
-
-pub returns : goal.returns
-returns c =
-    let end = zip_end c.args.marks.now c.args.keys.now c.loop-mark.yielded c.into_iter-mark-iterator.result c.loop-mark.mark-iterator c.next.new.self c.next.result
-    (search rules) (search rules) c.loop-mark.yielded_by c.in-None.is c.next.ensures.steps in
-    aside-all c.args.marks.now c.args.keys.now c.loop-mark.out _ c.loop-mark.at (omega arith) c.requires.step (omega arith) c.loop-mark.invariant.here c.loop-mark.invariant.so_far

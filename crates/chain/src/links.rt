@@ -36,6 +36,7 @@ pub fn skip(chain: &ChainKey, places: u32) -> ChainKey
     ensures { Skipped chain.now.0 places result.0 }
 {
     let mut at = ChainKey(chain.0);
+    // A count: each value comes from the one before it.
     for _place in 0..places {
         let next = hmac(&at.0, &NEXT);
         at.0 = next;

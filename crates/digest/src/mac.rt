@@ -17,7 +17,7 @@ pub struct Mac {
 }
 
 impl Mac {
-    // A state that holds no key.
+    // A state that holds no key. It is begun and finished where it lies, so that no copy of a pad stays behind.
     pub fn blank() -> Mac
         ensures inner { result.inner ≡ fresh }
         ensures outer { result.outer ≡ fresh }

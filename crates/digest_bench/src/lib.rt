@@ -1,4 +1,4 @@
-// The calls that the benchmark times, for C to link.
+// The calls that the benchmark times, for C to link: names, lengths and answers are those of its C program.
 #![tactic(auto)]
 
 ghost use Rattle.std.specs.Prelude.{◌≡◌, ◌↔◌, true, false, length};

@@ -18,6 +18,7 @@ fn load(bytes: &[u8], at: usize) -> u32
     u32::from_le_bytes(part_at(bytes, at))
 }
 
+// Written out as the standard lays it out.
 pub(crate) fn initial_state(key: &MessageKey, nonce: &Nonce, counter: u32) -> [u32; 16]
     ensures { result ≡ initial key.now.0 nonce.now.0 counter }
 {

@@ -43,6 +43,7 @@ fn diagonals(s: &mut [u32; 16])
 pub(crate) fn twenty_rounds(s: &mut [u32; 16])
     ensures { s.new ≡ double_rounds 10 s.old }
 {
+    // A count: each turn works on what the last one left.
     for _turn in 0..10usize {
         columns(s);
         diagonals(s);

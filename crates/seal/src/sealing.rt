@@ -66,7 +66,7 @@ pub fn seal(
     Ok(size + TAG_SIZE)
 }
 
-// What `open` answers and leaves; its laws stand there.
+// What `open` answers and leaves. Apart, since its laws follow from this answer alone, whichever it is.
 fn uncover(key: &MessageKey, header: &[u8], body: &[u8], out: &mut [u8]) -> Result<usize, OpenError>
     ensures { OpenAnswer key.now.0 header.now body.now out.old out.new result }
 {

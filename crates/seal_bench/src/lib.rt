@@ -1,4 +1,4 @@
-// The stream, sealing and opening as C functions, for the benchmark to link.
+// The stream, sealing and opening as C functions, for the benchmark to link: names and numbers are those of its C program.
 #![tactic(auto)]
 
 ghost use Rattle.std.specs.Prelude.{◌≡◌, ◌≤◌, ◌≢◌, ℕ};

@@ -2,7 +2,8 @@
 ghost use Rattle.std.specs.Prelude.{◌≡◌, ℕ, ◌+◌, ◌≤◌, List, ◌++◌, length, drop, Some, MatchOption};
 ghost use Rattle.seal.specs.Sealing.{sealed};
 
-use crate::sealed::{count_up, hex};
+use crate::sealed::hex;
+use octets::count_up;
 use seal::{MessageKey, open, seal};
 use std::io;
 
@@ -28,20 +29,13 @@ pub fn read(key: &MessageKey, message: &[u8], out: &mut [u8]) -> Option<usize>
     if message.len() < 47 {
         return None;
     }
-    let Ok(size) = open(key, &message[0..47], &message[47..message.len()], out) else {
-        return None;
-    };
-    Some(size)
+    open(key, &message[0..47], &message[47..message.len()], out).ok()
 }
 
 pub fn run(rt: &HostRuntime) -> io::Result<()> {
-    let mut key = [0; 32];
-    let mut header = [0; 47];
-    let mut text = [0; 65];
-    count_up(&mut key, 1, 5);
-    count_up(&mut header, 82, 1);
-    count_up(&mut text, 97, 1);
-    let key = MessageKey(key);
+    let key = MessageKey(count_up(1, 5));
+    let header: [u8; 47] = count_up(82, 1);
+    let text: [u8; 65] = count_up(97, 1);
     let mut message = [170; 160];
     let Some(end) = write(&key, &header, &text, &mut message) else {
         return println!(rt; "not written");

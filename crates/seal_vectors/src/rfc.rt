@@ -1,13 +1,10 @@
 // The ChaCha20 values of RFC 8439: sections 2.3.2 and 2.4.2, appendices A.1 and A.2.
 ghost use Rattle.std.specs.Prelude.{◌<◌};
 
-use seal::{MessageKey, Nonce, stream};
+use crate::sealed::hex;
+use octets::count_up;
+use seal::{MessageKey, Nonce, TooLong, stream};
 use std::io;
-
-const COUNTING: [u8; 32] = [
-    0, 1, 2, 3, 4, 5, 6, 7, 8, 9, 10, 11, 12, 13, 14, 15, 16, 17, 18, 19, 20, 21, 22, 23, 24, 25,
-    26, 27, 28, 29, 30, 31,
-];
 
 const SCATTERED: [u8; 32] = [
     0x1c, 0x92, 0x40, 0xa5, 0xeb, 0x55, 0xd3, 0x8a, 0xf3, 0x33, 0x88, 0x86, 0x04, 0xf6, 0xb5, 0xf0,
@@ -42,8 +39,8 @@ fn show(
 ) -> io::Result<()> {
     print!(rt; "{name} ")?;
     match stream(key, nonce, counter, text) {
-        Ok(_) => crate::sealed::hex(rt, text),
-        Err(_) => println!(rt; "too long"),
+        Ok(()) => hex(rt, text),
+        Err(TooLong) => println!(rt; "too long"),
     }
 }
 
@@ -89,7 +86,7 @@ fn texts(rt: &HostRuntime) -> io::Result<()> {
 }
 
 pub fn run(rt: &HostRuntime) -> io::Result<()> {
-    let key = MessageKey(COUNTING);
+    let key = MessageKey(count_up(0, 1));
     let mut sunscreen =
         *b"Ladies and Gentlemen of the class of '99: If I could offer you only one tip for the future, sunscreen would be it.";
     show(

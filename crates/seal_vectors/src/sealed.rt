@@ -1,30 +1,16 @@
 // Texts sealed and opened, and what is no sealed text refused.
+ghost use Rattle.std.specs.Prelude.{◌≤◌};
+
+use octets::count_up;
 use seal::{MessageKey, OpenError, SealError, open, seal};
 use std::io;
 
 pub fn hex(rt: &HostRuntime, bytes: &[u8]) -> io::Result<()> {
-    for b in bytes {
-        print!(rt; "{b:02x}")?;
-    }
-    println!(rt; "")
-}
-
-// Bytes that go up by a step.
-pub fn count_up(bytes: &mut [u8], start: u8, step: u8) {
-    let mut next = start;
-    for b in bytes.iter_mut() {
-        *b = next;
-        next = next.wrapping_add(step);
-    }
+    println!(rt; "{}", hex::encode(rt.alloc(), bytes)?)
 }
 
 fn untouched(output: &[u8]) -> bool {
-    for b in output {
-        if *b != 170 {
-            return false;
-        }
-    }
-    true
+    output.iter().all(|b| *b == 170)
 }
 
 fn show_refusal(rt: &HostRuntime, what: &str, why: &str, output: &[u8]) -> io::Result<()> {
@@ -124,29 +110,27 @@ fn round_trip(
     Ok(end)
 }
 
-fn case(rt: &HostRuntime, text: &mut [u8], n: u8) -> io::Result<()> {
-    let mut key = [0; 32];
-    let mut other = [0; 32];
-    let mut header = [0; 47];
-    count_up(&mut key, n.wrapping_mul(17), 7);
-    count_up(&mut other, n.wrapping_mul(17), 9);
-    count_up(&mut header, n.wrapping_mul(29), 3);
-    count_up(text, n.wrapping_mul(5), 11);
-    let key = MessageKey(key);
+fn case<const N: usize>(rt: &HostRuntime, n: u8) -> io::Result<()>
+    requires { N ≤ 1000 }
+{
+    let text: [u8; N] = count_up(n.wrapping_mul(5), 11);
+    let mut header: [u8; 47] = count_up(n.wrapping_mul(29), 3);
+    let key = MessageKey(count_up(n.wrapping_mul(17), 7));
+    let other = MessageKey(count_up(n.wrapping_mul(17), 9));
     let mut out = [170; 1024];
-    let end = round_trip(rt, &key, &header, text, &mut out, &mut [170; 1024])?;
-    refuse_seal(rt, &key, &header, text, &mut [170; 1024])?;
+    let end = round_trip(rt, &key, &header, &text, &mut out, &mut [170; 1024])?;
+    refuse_seal(rt, &key, &header, &text, &mut [170; 1024])?;
     if end > 1024 {
         return println!(rt; "another size");
     }
-    forgeries(rt, &key, &mut header, &mut out[0..end], &MessageKey(other))
+    forgeries(rt, &key, &mut header, &mut out[0..end], &other)
 }
 
 pub fn run(rt: &HostRuntime) -> io::Result<()> {
-    case(rt, &mut [0; 0], 0)?;
-    case(rt, &mut [0; 1], 1)?;
-    case(rt, &mut [0; 63], 2)?;
-    case(rt, &mut [0; 64], 3)?;
-    case(rt, &mut [0; 65], 4)?;
-    case(rt, &mut [0; 1000], 5)
+    case::<0>(rt, 0)?;
+    case::<1>(rt, 1)?;
+    case::<63>(rt, 2)?;
+    case::<64>(rt, 3)?;
+    case::<65>(rt, 4)?;
+    case::<1000>(rt, 5)
 }

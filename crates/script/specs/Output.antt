@@ -7,6 +7,7 @@ use Rattle.ratchet.specs.Numbers.{number}
 use Rattle.ratchet.specs.State.{State}
 use Rattle.runs.specs.declared.types.Who.{Who}
 use Rattle.runs.specs.declared.types.Who.TheVariants.{First, Second}
+use Rattle.runs.specs.Names.{name_of}
 use Rattle.runs.specs.World.{World}
 use Rattle.stage.specs.declared.types.Sending.{Sending}
 use Rattle.stage.specs.declared.types.Sending.TheVariants as sending
@@ -48,10 +49,6 @@ taking_line n text taking.Opened = opened_line n text
 taking_line n text taking.Lost = numbered_line n (codes "lost")
 taking_line n text taking.Stopped = stopped_line
 taking_line n text (taking.Refused why) = decimal n ++ (codes " refused " ++ (decimal (number why) ++ (10 ∷ [])))
-
-abbrev pub name_of : Who → List ℕ
-name_of First = codes "first"
-name_of Second = codes "second"
 
 abbrev pub read_line : Who → List ℕ
 read_line who = name_of who ++ (codes " read" ++ (10 ∷ []))

@@ -124,6 +124,9 @@ fn deliver_line(line: &[u8]) -> Option<Command>
 pub fn parse(line: &[u8]) -> Option<Command>
     ensures { result ≡ parsed line.now }
 {
-    let others = send_line(line).or(stop_line(line).or(deliver_line(line)));
-    quiet_line(line).or(read_line(line).or(others))
+    quiet_line(line)
+        .or_else(|| read_line(line))
+        .or_else(|| send_line(line))
+        .or_else(|| stop_line(line))
+        .or_else(|| deliver_line(line))
 }

@@ -1,7 +1,7 @@
 // What a rehearsal prints, line by line.
 ghost use Rattle.std.specs.Prelude.{◌≡◌, ◌++◌, OnOk};
 ghost use Rattle.ratchet.specs.State.{state_of};
-ghost use Rattle.script.specs.Output.{opened_line, name_of, read_line, sending_line, taking_line, text_part, link_text, marks_text, links_text, side_line};
+ghost use Rattle.script.specs.Output.{opened_line, read_line, sending_line, taking_line, text_part, link_text, marks_text, links_text, side_line};
 
 use notation::faults::Fault;
 use notation::text::put_text;
@@ -69,22 +69,11 @@ pub fn put_taking(
     Ok(())
 }
 
-// The name of a side.
-pub fn name(who: Who) -> &'static str
-    ensures { result.now ≡ name_of who }
-{
-    match who {
-        Who::First => "first",
-        Who::Second => "second",
-    }
-}
-
 // `S read`
 pub fn put_read(out: &mut Vec<u8>, who: Who) -> Result<(), Fault>
     ensures { OnOk result (out.new.items ≡ out.old.items ++ read_line who) }
 {
-    let name = name(who);
-    writeln!(out, "{name} read")?;
+    writeln!(out, "{who} read")?;
     Ok(())
 }
 
@@ -127,10 +116,9 @@ fn put_links(out: &mut Vec<u8>, side: &Side) -> Result<(), Fault>
 pub fn put_side(out: &mut Vec<u8>, who: Who, side: &Side) -> Result<(), Fault>
     ensures { OnOk result (out.new.items ≡ out.old.items ++ side_line who (state_of side.now)) }
 {
-    let name = name(who);
     let drawn = side.drawn;
     let before = side.before;
-    write!(out, "{name}: drawn {drawn}; root {drawn}")?;
+    write!(out, "{who}: drawn {drawn}; root {drawn}")?;
     put_links(out, side)?;
     write!(out, "; before {before}; aside")?;
     put_marks(out, side.aside())?;

@@ -5,7 +5,7 @@ ghost use Rattle.script.specs.Reasons.{bad_script_text};
 ghost use Rattle.script.specs.Views.{Turned};
 ghost use Rattle.script.specs.Whole.{Ended, Lawful, without_newline};
 
-use crate::play::{BadLine, Played};
+use crate::play::{BadLine, Outcome, Played};
 use crate::view::View;
 use notation::faults::Fault;
 use stage::player::Player;
@@ -43,7 +43,7 @@ fn turn(
     number: usize,
     line: &[u8],
     out: &mut Vec<u8>,
-) -> Result<Result<Played, BadLine>, Fault>
+) -> Result<Outcome, Fault>
     ensures { IfOk result (Turned view number line.now player.old player.new out.old.items out.new.items) }
 {
     let played = view.play(player, line, out)?;

@@ -5,7 +5,7 @@ ghost use Rattle.stage.specs.Players.{world_of};
 ghost use Rattle.script.specs.Views.{mark_of, openness_of, show_of, end_of, Viewed};
 
 use crate::output;
-use crate::play::{BadLine, Played, play};
+use crate::play::{Outcome, play};
 use exposure::rows;
 use notation::faults::Fault;
 use ratchet::types::Mark;
@@ -68,12 +68,7 @@ impl View {
     }
 
     // Plays a line; what it prints is kept only where the sides are viewed.
-    pub fn play(
-        self,
-        player: &mut Player,
-        line: &[u8],
-        out: &mut Vec<u8>,
-    ) -> Result<Result<Played, BadLine>, Fault>
+    pub fn play(self, player: &mut Player, line: &[u8], out: &mut Vec<u8>) -> Result<Outcome, Fault>
         ensures { IfOk result (Viewed self line.now player.old player.new out.old.items out.new.items) }
     {
         match self {

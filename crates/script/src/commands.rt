@@ -28,11 +28,7 @@ fn quiet_line(line: &[u8]) -> Option<Command>
     if is_blank(line) || begins(line, b"#") {
         return Some(Command::Nothing);
     }
-    if line == b"show".as_slice() {
-        Some(Command::Show)
-    } else {
-        None
-    }
+    (line == b"show".as_slice()).then_some(Command::Show)
 }
 
 // `read S`
@@ -42,11 +38,7 @@ fn read_line(line: &[u8]) -> Option<Command>
     if line == b"read first".as_slice() {
         return Some(Command::Read(Who::First));
     }
-    if line == b"read second".as_slice() {
-        Some(Command::Read(Who::Second))
-    } else {
-        None
-    }
+    (line == b"read second".as_slice()).then_some(Command::Read(Who::Second))
 }
 
 // `send S`, alone or with a space and a text behind it.

@@ -12,7 +12,7 @@ use stage::types::{Stop, When};
 pub enum Command {
     // a blank line, or one that begins with #
     Nothing,
-    // one sends the text that begins at this byte of the line
+    // one sends the text that begins at this byte of the line; a place and no slice, since lines are defined by equal commands
     Send(Who, usize),
     // the message of this number comes, with this bit turned if one is named
     Deliver(u32, Option<u32>),

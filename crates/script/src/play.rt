@@ -30,7 +30,7 @@ pub enum Played {
     Show,
 }
 
-// What playing a line comes to.
+// What playing a line comes to; a `Fault`, which ends the run, stands outside it, since the theorems speak of the line alone.
 pub type Outcome = Result<Played, BadLine>;
 
 // What is wrong with a line, in words.

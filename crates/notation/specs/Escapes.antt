@@ -1,13 +1,14 @@
 -- Texts as scripts and output write them: \xNN stands for one byte.
 -- Assumes nothing.
-use Rattle.std.specs.Prelude.{ℕ, ◌+◌, ◌-◌, ◌*◌, ◌/◌, ◌%◌, Bool, cond, ◌&&◌, ◌||◌, List, [], ◌∷◌, ◌++◌, Some, None, fold, Option, ◌==◌, nat_le, nat_lt}
+use Rattle.std.specs.Prelude.{ℕ, ◌+◌, ◌-◌, ◌*◌, ◌/◌, ◌%◌, Bool, false, cond, ◌&&◌, ◌||◌, List, [], ◌∷◌, ◌++◌, Some, None, fold, Option, ◌==◌, nat_le, nat_lt}
+use Rattle.std.specs.Fmt.{digit_glyph}
 use Rattle.std.specs.List.{flat_map}
 use Rattle.notation.specs.declared.text.Escape.{Escape}
 use Rattle.notation.specs.declared.text.Escape.TheVariants.{Plain, Slash, Hex, Digit, Bad}
 
 -- 0 to 9, a to f
 abbrev pub hex_digit : ℕ → ℕ
-hex_digit n = cond (nat_lt n 10) (n + 48) (n + 87)
+hex_digit n = digit_glyph false n
 
 -- every byte below 32, 127 and the backslash (92) is written \xNN; x is 120
 abbrev pub hidden : ℕ → Bool

@@ -1,16 +1,12 @@
 // Numbers as scripts write them.
-ghost use Rattle.std.specs.Prelude.{◌≡◌};
+ghost use Rattle.std.specs.Prelude.{◌≡◌, Some};
 ghost use Rattle.notation.specs.Decimals.{digit_after, number_of};
 
 // A number with one more digit behind it.
-fn with_digit(n: Option<u32>, b: u8) -> Option<u32>
-    ensures { result ≡ digit_after n b }
+fn with_digit(n: u32, b: u8) -> Option<u32>
+    ensures { result ≡ digit_after (Some n) b }
 {
-    let n = n?;
-    if !b.is_ascii_digit() {
-        return None;
-    }
-    n.checked_mul(10)?.checked_add((b - b'0') as u32)
+    n.checked_mul(10)?.checked_add(char::from(b).to_digit(10)?)
 }
 
 // A number of one decimal digit or more, at most 4,294,967,295.
@@ -20,5 +16,5 @@ pub fn parse_number(digits: &[u8]) -> Option<u32>
     if digits.is_empty() {
         return None;
     }
-    digits.iter().fold(Some(0u32), |n, b| with_digit(n, *b))
+    digits.iter().fold(Some(0u32), |n, b| with_digit(n?, *b))
 }

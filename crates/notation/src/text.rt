@@ -1,10 +1,11 @@
 // Texts as scripts and output write them: a byte that can't be seen is \xNN.
 ghost use Rattle.std.specs.Prelude.{◌≡◌, ◌<◌, ◌++◌, IfOk, vec_items, OnOk};
 ghost use Rattle.std.specs.Option.{option_map, option_to_list};
-ghost use Rattle.notation.specs.Escapes.{escaped, escaped_byte, hex_digit, hex_value, after, emitted, unescaped};
+ghost use Rattle.notation.specs.Escapes.{escaped, hidden, escaped_byte, hex_value, after, emitted, unescaped};
 
 use crate::faults::Fault;
 use std::alloc::Global;
+use std::io::Write;
 
 // Where the reading of an escape stands.
 #[derive(Clone, Copy)]
@@ -21,32 +22,26 @@ pub enum Escape {
     Bad,
 }
 
-// The digit for a number below 16.
-fn hex_digit(n: u8) -> u8
-    requires { n < 16 }
-    ensures { result ≡ hex_digit n }
-{
-    if n < 10 { b'0' + n } else { b'a' + (n - 10) }
-}
-
 // The value of a hexadecimal digit.
 fn hex_value(b: u8) -> Option<u8>
     ensures { result ≡ hex_value b }
 {
-    match b {
-        b'0'..=b'9' => Some(b - b'0'),
-        b'a'..=b'f' => Some(b - b'a' + 10),
-        b'A'..=b'F' => Some(b - b'A' + 10),
-        _ => None,
-    }
+    Some(char::from(b).to_digit(16)? as u8)
+}
+
+// Is a byte written as an escape: one that can't be seen, or a backslash.
+fn is_hidden(b: u8) -> bool
+    ensures { result ≡ hidden b }
+{
+    b.is_ascii_control() || b == b'\\'
 }
 
 // One byte of a text, as output writes it.
 fn put_byte(out: &mut Vec<u8>, b: u8) -> Result<(), Fault>
     ensures { OnOk result (out.new.items ≡ out.old.items ++ escaped_byte b) }
 {
-    if b < b' ' || b == 127 || b == b'\\' {
-        out.extend_from_slice(&[b'\\', b'x', hex_digit(b / 16), hex_digit(b % 16)])?;
+    if is_hidden(b) {
+        write!(out, "\\x{b:02x}")?;
     } else {
         out.push(b)?;
     }

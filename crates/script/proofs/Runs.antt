@@ -13,7 +13,7 @@ use Rattle.stage.specs.declared.types.NoDelivery.TheVariants.{NoSuchMessage, NoS
 use Rattle.notation.specs.Escapes.{unescaped}
 use Rattle.stage.specs.Players.{world_of, numbered, whole, due_for, DeliveryIs}
 use Rattle.stage.specs.Plan.{up_to}
-use Rattle.script.specs.Played.{Outcome, SendText, LinePlayed}
+use Rattle.script.specs.Played.{Told, SendText, LinePlayed}
 use Rattle.script.specs.declared.rehearsal.BadScript.{BadScript}
 use Rattle.script.specs.declared.view.View.{View}
 use Rattle.script.specs.declared.view.View.TheVariants.{Sides, Openness}
@@ -29,11 +29,11 @@ delivery_moved n flip p q (Ok r) h =
     let to = other (numbered n p).from in
     inr (takes to (numbered n p).message (whole flip) (up_to (due_for to p) 2), h.3.world)
 
-send-moved : (t : Option (List ℕ)) (who : Who) (p q : Player) (o u : List ℕ) (b : Outcome) → SendText t who p q o u b → Moved (world_of p) (world_of q)
+send-moved : (t : Option (List ℕ)) (who : Who) (p q : Player) (o u : List ℕ) (b : Told) → SendText t who p q o u b → Moved (world_of p) (world_of q)
 send-moved None who p q o u b h = inl (ap world_of h.1.player)
 send-moved (Some t) who p q o u b h = inr (sends who (length t) (up_to (due_for who p) 3), h.1.1.sent.world)
 
-pub line-moved : (c : Option Command) (line : List ℕ) (p q : Player) (o u : List ℕ) (b : Outcome) → LinePlayed c line p q o u b → Moved (world_of p) (world_of q)
+pub line-moved : (c : Option Command) (line : List ℕ) (p q : Player) (o u : List ℕ) (b : Told) → LinePlayed c line p q o u b → Moved (world_of p) (world_of q)
 line-moved None line p q o u b h = inl (ap world_of h.1.player)
 line-moved (Some Nothing) line p q o u b h = inl (ap world_of h.1.player)
 line-moved (Some Show) line p q o u b h = inl (ap world_of h.1.player)
@@ -60,7 +60,7 @@ ran-more w v u (es, h) (inr (e, k)) = (es ++ e ∷ [], k ∙ (ap (step e) h ∙ 
 pub lawful : (w v : World) → Ran w v → Lawful w v
 lawful w v r = record { events = r.0; ran = r.1; laws = λ _. every-run r.0 }
 
-viewed_moved : (v : View) (line : List ℕ) (p q : Player) (o u : List ℕ) (b : Outcome) → Viewed v line p q o u b → Moved (world_of p) (world_of q)
+viewed_moved : (v : View) (line : List ℕ) (p q : Player) (o u : List ℕ) (b : Told) → Viewed v line p q o u b → Moved (world_of p) (world_of q)
 viewed_moved Sides line p q o u b h = line-moved (parsed line) line p q o u b h
 viewed_moved Openness line p q o u b h = line-moved (parsed line) line p q [] h.1.0 b h.1.1
 

@@ -12,7 +12,7 @@ use stage::types::{Stop, When};
 pub enum Command {
     // a blank line, or one that begins with #
     Nothing,
-    // one sends the text that begins at this byte of the line
+    // one sends the text that begins at this byte of the line; a place and no slice, since lines are defined by equal commands
     Send(Who, usize),
     // the message of this number comes, with this bit turned if one is named
     Deliver(u32, Option<u32>),
@@ -28,11 +28,7 @@ fn quiet_line(line: &[u8]) -> Option<Command>
     if is_blank(line) || begins(line, b"#") {
         return Some(Command::Nothing);
     }
-    if line == b"show".as_slice() {
-        Some(Command::Show)
-    } else {
-        None
-    }
+    (line == b"show".as_slice()).then_some(Command::Show)
 }
 
 // `read S`
@@ -42,11 +38,7 @@ fn read_line(line: &[u8]) -> Option<Command>
     if line == b"read first".as_slice() {
         return Some(Command::Read(Who::First));
     }
-    if line == b"read second".as_slice() {
-        Some(Command::Read(Who::Second))
-    } else {
-        None
-    }
+    (line == b"read second".as_slice()).then_some(Command::Read(Who::Second))
 }
 
 // `send S`, alone or with a space and a text behind it.
@@ -124,6 +116,9 @@ fn deliver_line(line: &[u8]) -> Option<Command>
 pub fn parse(line: &[u8]) -> Option<Command>
     ensures { result ≡ parsed line.now }
 {
-    let others = send_line(line).or(stop_line(line).or(deliver_line(line)));
-    quiet_line(line).or(read_line(line).or(others))
+    quiet_line(line)
+        .or_else(|| read_line(line))
+        .or_else(|| send_line(line))
+        .or_else(|| stop_line(line))
+        .or_else(|| deliver_line(line))
 }

@@ -30,6 +30,9 @@ pub enum Played {
     Show,
 }
 
+// What playing a line comes to; a `Fault`, which ends the run, stands outside it, since the theorems speak of the line alone.
+pub type Outcome = Result<Played, BadLine>;
+
 // What is wrong with a line, in words.
 impl fmt::Display for BadLine {
     ghost output = { λ why. Some (reason_of why) };
@@ -54,7 +57,7 @@ fn play_send(
     from: Who,
     raw: &[u8],
     out: &mut Vec<u8>,
-) -> Result<Result<Played, BadLine>, Fault>
+) -> Result<Outcome, Fault>
     ensures { IfOk result (SendLine from raw.now player.old player.new out.old.items out.new.items) }
 {
     let Some(text) = text::unescape(*out.allocator(), raw)? else {
@@ -71,7 +74,7 @@ fn play_deliver(
     number: usize,
     flip: Option<usize>,
     out: &mut Vec<u8>,
-) -> Result<Result<Played, BadLine>, Fault>
+) -> Result<Outcome, Fault>
     ensures { IfOk result (DeliverLine number flip player.old player.new out.old.items out.new.items) }
 {
     let taking = match player.deliver(number, flip)? {
@@ -85,7 +88,7 @@ fn play_deliver(
 }
 
 // `stop S before N` and `stop S after N`
-fn play_plan(player: &mut Player, who: Who, stop: Stop) -> Result<Result<Played, BadLine>, Fault>
+fn play_plan(player: &mut Player, who: Who, stop: Stop) -> Result<Outcome, Fault>
     ensures { IfOk result (PlanLine who stop player.old player.new) }
 {
     match player.plan(who, stop)? {
@@ -95,11 +98,7 @@ fn play_plan(player: &mut Player, who: Who, stop: Stop) -> Result<Result<Played,
 }
 
 // `read S`
-fn play_read(
-    player: &mut Player,
-    who: Who,
-    out: &mut Vec<u8>,
-) -> Result<Result<Played, BadLine>, Fault>
+fn play_read(player: &mut Player, who: Who, out: &mut Vec<u8>) -> Result<Outcome, Fault>
     ensures { IfOk result (ReadLine who player.old player.new out.old.items out.new.items) }
 {
     player.read(who)?;
@@ -115,11 +114,7 @@ fn behind(line: &[u8], at: usize) -> &[u8]
 }
 
 // Plays one line of a script.
-pub fn play(
-    player: &mut Player,
-    line: &[u8],
-    out: &mut Vec<u8>,
-) -> Result<Result<Played, BadLine>, Fault>
+pub fn play(player: &mut Player, line: &[u8], out: &mut Vec<u8>) -> Result<Outcome, Fault>
     ensures { IfOk result (LinePlayed (parsed line.now) line.now player.old player.new out.old.items out.new.items) }
 {
     let Some(command) = commands::parse(line) else {

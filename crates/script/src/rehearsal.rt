@@ -5,7 +5,7 @@ ghost use Rattle.script.specs.Reasons.{bad_script_text};
 ghost use Rattle.script.specs.Views.{Turned};
 ghost use Rattle.script.specs.Whole.{Ended, Lawful, without_newline};
 
-use crate::play::{BadLine, Played};
+use crate::play::{BadLine, Outcome, Played};
 use crate::view::View;
 use notation::faults::Fault;
 use stage::player::Player;
@@ -43,7 +43,7 @@ fn turn(
     number: usize,
     line: &[u8],
     out: &mut Vec<u8>,
-) -> Result<Result<Played, BadLine>, Fault>
+) -> Result<Outcome, Fault>
     ensures { IfOk result (Turned view number line.now player.old player.new out.old.items out.new.items) }
 {
     let played = view.play(player, line, out)?;
@@ -63,6 +63,7 @@ pub fn play_all(
     ensures ended { IfOk result (Ended view script.now player.old out.old.items player.new out.new.items) }
     ensures lawful { OnOk result (Lawful (world_of player.old) (world_of player.new)) }
 {
+    // counted here and not by `enumerate`: the number stays at its greatest, as the definition has it
     let mut number = 1usize;
     for line in script.split_inclusive(|b| *b == b'\n') {
         if let Err(why) = turn(player, view, number, without_newline(line), out)? {

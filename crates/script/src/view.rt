@@ -5,7 +5,7 @@ ghost use Rattle.stage.specs.Players.{world_of};
 ghost use Rattle.script.specs.Views.{mark_of, openness_of, show_of, end_of, Viewed};
 
 use crate::output;
-use crate::play::{BadLine, Played, play};
+use crate::play::{Outcome, play};
 use exposure::rows;
 use notation::faults::Fault;
 use ratchet::types::Mark;
@@ -55,7 +55,12 @@ fn put_openness(player: &Player, out: &mut Vec<u8>) -> Result<(), Fault>
 
 impl View {
     // What a `show` on this line prints.
-    pub fn put_show(self, player: &Player, number: usize, out: &mut Vec<u8>) -> Result<(), Fault>
+    pub(crate) fn put_show(
+        self,
+        player: &Player,
+        number: usize,
+        out: &mut Vec<u8>,
+    ) -> Result<(), Fault>
         ensures { OnOk result (out.new.items ≡ out.old.items ++ show_of self number player.now) }
     {
         match self {
@@ -68,12 +73,12 @@ impl View {
     }
 
     // Plays a line; what it prints is kept only where the sides are viewed.
-    pub fn play(
+    pub(crate) fn play(
         self,
         player: &mut Player,
         line: &[u8],
         out: &mut Vec<u8>,
-    ) -> Result<Result<Played, BadLine>, Fault>
+    ) -> Result<Outcome, Fault>
         ensures { IfOk result (Viewed self line.now player.old player.new out.old.items out.new.items) }
     {
         match self {

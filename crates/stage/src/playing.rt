@@ -18,14 +18,6 @@ use ratchet::types::Message;
 use runs::types::Who;
 use std::alloc::Global;
 
-// A reading is noted behind the others.
-fn keep_reading(readings: &mut Vec<Side>, side: Side) -> Result<(), Fault>
-    ensures { OnOk result (map state_of readings.new.items ≡ map state_of readings.old.items ++ state_of side ∷ []) }
-{
-    readings.push(side)?;
-    Ok(())
-}
-
 // A message gets the next number.
 fn keep_letter(letters: &mut Vec<Letter>, letter: Letter) -> Result<(), Fault>
     ensures { OnOk result (map post_of letters.new.items ≡ map post_of letters.old.items ++ post_of letter ∷ []) }
@@ -94,7 +86,8 @@ impl Player {
         ensures letters { letters_of self.new ≡ letters_of self.old }
     {
         let side = self.device(who).side;
-        keep_reading(&mut self.readings, side)
+        self.readings.push(side)?;
+        Ok(())
     }
 
     // One sends a text.

@@ -1,7 +1,7 @@
 use Rattle.std.proofs.Common.{ℕ, ◌+◌, eqb, List, Ok, Err, vec_items, length, sym, ap, subst, ◌∙◌, rules, arith, length-drop}
 use borrow.Author.Tests.{tests}
 use Rattle.std.specs.Slice.Iter.{split_inclusive_rest}
-use Rattle.script.specs.Played.{Outcome}
+use Rattle.script.specs.Played.{Told}
 use Rattle.script.specs.Views.{Turned}
 use Rattle.script.specs.Whole.{Through, begun, onward, all_played, bad_line}
 use Rattle.script.proofs.Lines.{cut-line, computes}
@@ -21,7 +21,7 @@ loop-line-preserved c =
     let cut = cut-line s inv.0 _ c.in-Some.line.now _ h.1.0 inv.1 h.0 first h.2 h.1.1 in
     let o = vec_items c.loop-line.out in
     let u = vec_items c.turn.new.out in
-    let good = subst (λ (b : Outcome). Turned c.args.view c.loop-line.number c.without_newline.result.now c.loop-line.player c.turn.new.player o u b)
+    let good = subst (λ (b : Told). Turned c.args.view c.loop-line.number c.without_newline.result.now c.loop-line.player c.turn.new.player o u b)
     c.in_default.is c.in_ok-why.ensures in
     let turned = subst (λ (l : List ℕ). Turned c.args.view c.loop-line.number l c.loop-line.player c.turn.new.player o u (Ok c.in_default.field-0))
     (c.without_newline.ensures ∙ cut.line) good in
@@ -37,7 +37,7 @@ returns-in-Err c =
     let cut = cut-line c.args.script.now inv.0 _ c.in-Some.line.now _ h.1.0 inv.1 h.0 first h.2 h.1.1 in
     let o = vec_items c.loop-line.out in
     let u = vec_items c.turn.new.out in
-    let poor = subst (λ (b : Outcome). Turned c.args.view c.loop-line.number c.without_newline.result.now c.loop-line.player c.turn.new.player o u b)
+    let poor = subst (λ (b : Told). Turned c.args.view c.loop-line.number c.without_newline.result.now c.loop-line.player c.turn.new.player o u b)
     c.in-Err.is c.in_ok-why.ensures in
     let turned = subst (λ (l : List ℕ). Turned c.args.view c.loop-line.number l c.loop-line.player c.turn.new.player o u (Err c.in-Err.why))
     (c.without_newline.ensures ∙ cut.line) poor in

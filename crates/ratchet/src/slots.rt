@@ -20,7 +20,7 @@ pub(crate) fn put(slots: &mut [Mark], at: usize, link: u32, from: u32, upto: u32
     }
 }
 
-// Where the first mark that is this one is among some.
+// Where the first mark that is this one is among some. One by one, as the definition goes: there are 512 at most.
 pub fn position(marks: &[Mark], mark: Mark) -> Option<usize>
     ensures { result ≡ position (λ x. same_mark x mark) marks.now }
 {

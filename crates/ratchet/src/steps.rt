@@ -46,7 +46,7 @@ pub fn first_side() -> Side
     fresh(1)
 }
 
-// The second side as it begins: it has drawn key 0.
+// The second side as it begins: it has drawn key 0. A name for each, since which number is whose is a rule.
 pub fn second_side() -> Side
     ensures { state_of result ≡ begun 0 }
 {
@@ -101,17 +101,17 @@ fn take_in_turn(side: Side, message: Message, opens: bool) -> Taken
     if place == u32::MAX {
         return Taken::Refused(side, Refusal::Exhausted);
     }
-    let mut marks = side.marks;
-    slots::put(&mut marks, side.count, message.mark.link, side.taken, place);
-    let count = side.count + passed as usize;
-    Taken::Opened(Side {
-        drawn: side.drawn,
-        sent: side.sent,
-        taken: place + 1,
-        before: side.before,
-        count,
-        marks,
-    })
+    let mut next = side;
+    slots::put(
+        &mut next.marks,
+        side.count,
+        message.mark.link,
+        side.taken,
+        place,
+    );
+    next.count = side.count + passed as usize;
+    next.taken = place + 1;
+    Taken::Opened(next)
 }
 
 // Takes a message whose key was put aside, in slot `i`.
@@ -124,17 +124,10 @@ fn take_recalled(side: Side, message: Message, i: usize, opens: bool) -> Taken
     if !opens {
         return Taken::Refused(side, Refusal::NotOpened);
     }
-    let mut marks = side.marks;
-    let count = side.count;
-    slots::take_out(&mut marks[0..count], i, BLANK);
-    Taken::Opened(Side {
-        drawn: side.drawn,
-        sent: side.sent,
-        taken: side.taken,
-        before: side.before,
-        count: count - 1,
-        marks,
-    })
+    let mut next = side;
+    slots::take_out(&mut next.marks[0..side.count], i, BLANK);
+    next.count = side.count - 1;
+    Taken::Opened(next)
 }
 
 // The slots with what is left of the old link and what the new one passes over behind the marks of the side.
@@ -197,7 +190,7 @@ fn take_new(side: Side, message: Message, opens: bool) -> Taken
     })
 }
 
-// Takes a message; `opens` says whether its text opens with its key.
+// Takes a message; `opens` says whether its text opens with its key: what a test answers, and no kind of message.
 pub fn take(side: Side, message: Message, opens: bool) -> Taken
     ensures answer { taken_answer result ≡ taking opens (state_of side) message }
     ensures values { TakenBy side result }

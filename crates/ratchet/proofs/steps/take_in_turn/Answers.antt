@@ -6,8 +6,8 @@ use Rattle.ratchet.proofs.Put.{length-places, grown_front, grown_rest}
 use Rattle.ratchet.proofs.Kept.{kept_in_turn}
 use Rattle.ratchet.proofs.steps.take_in_turn.Goals as goal
 
-pub invariant_of-result : goal.invariant_of-result
-invariant_of-result c =
+pub invariant_of-next : goal.invariant_of-next
+invariant_of-next c =
     let side = c.args.side in
     let n = c.args.message.mark.place - side.taken in
     let size : length side.marks ≡ 512 = search rules in

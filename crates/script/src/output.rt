@@ -82,7 +82,10 @@ fn put_link(out: &mut Vec<u8>, drawn: u32, least: u32, place: u32) -> Result<(),
     ensures { OnOk result (out.new.items ≡ out.old.items ++ link_text drawn least place) }
 {
     match drawn.checked_sub(least) {
-        Some(link) => write!(out, "{link}/{place}")?,
+        Some(link) => {
+            let mark = Mark { link, place };
+            write!(out, "{mark}")?
+        }
         None => write!(out, "-")?,
     }
     Ok(())

@@ -117,7 +117,7 @@ fn behind(line: &[u8], at: usize) -> &[u8]
     line.get(at..).unwrap_or(&[])
 }
 
-// Plays one line of a script.
+// Plays one line of a script, by what it asks for: an arm for each, as it is defined.
 pub fn play(player: &mut Player, line: &[u8], out: &mut Vec<u8>) -> Result<Outcome, Fault>
     ensures { IfOk result (LinePlayed (parsed line.now) line.now player.old player.new out.old.items out.new.items) }
 {

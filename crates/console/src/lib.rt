@@ -54,13 +54,11 @@ fn read_script(rt: &HostRuntime) -> io::Result<Option<Vec<u8>>> {
 }
 
 // Plays a script to its end, and puts what stands behind it.
-fn play(view: View, script: &[u8], out: &mut Vec<u8>) -> Result<Result<(), BadScript>, Fault> {
+fn play(view: View, script: &[u8], out: &mut Vec<u8>) -> Result<(), Failure> {
     let mut player = Player::new(*out.allocator());
-    let ended = rehearsal::play_all(&mut player, view, script, out)?;
-    if ended.is_ok() {
-        view.put_end(&player, out)?;
-    }
-    Ok(ended)
+    rehearsal::play_all(&mut player, view, script, out)??;
+    view.put_end(&player, out)?;
+    Ok(())
 }
 
 // Prints what a script prints, up to what is wrong with it, if anything is.
@@ -70,8 +68,7 @@ fn run(rt: &HostRuntime, view: View) -> Result<(), Failure> {
     let ended = play(view, &script, &mut out);
     rt.stdout().write_all(&out)?;
     rt.stdout().flush()?;
-    ended??;
-    Ok(())
+    ended
 }
 
 // A whole program.

@@ -1,4 +1,5 @@
 // The clauses by which roots, links and keys follow from the sides that were read: for what lies open by the rule, and for what can be worked out.
+// What goes in and comes out are bools: each says whether a fact holds.
 ghost use Rattle.std.specs.Prelude.{◌≡◌};
 ghost use Rattle.exposure.specs.Links.{root_by, link_by, key_by};
 

@@ -1,4 +1,5 @@
 // What is asked of the sides that were read out, by the rule and by working out alike.
+// The contracts here and in the rule speak of `map state_of readings.now` each time: it is what the laws of a run are about.
 ghost use Rattle.std.specs.Prelude.{◌≡◌, map, IfOk, OnOk};
 ghost use Rattle.ratchet.specs.State.{state_of};
 ghost use Rattle.runs.specs.Rule.{read_at};
@@ -22,7 +23,7 @@ pub fn read_at(readings: &[Side], n: u64) -> bool
     readings.iter().any(|side| side.drawn as u64 == n)
 }
 
-// Adds some marks to a set.
+// Adds some marks to a set; one by one, since there may be no memory for any of them.
 fn add_all(set: &mut BTreeSet<Mark>, marks: &[Mark]) -> Result<(), Fault>
     ensures { OnOk result (Adds set.old.keys marks.now set.new.keys) }
 {

@@ -11,7 +11,7 @@ use ratchet::sides::Side;
 use ratchet::types::Mark;
 use std::io::Write;
 
-// Appends `M L/P open known`, each word by its bool.
+// Appends `M L/P open known`, each word by the answer of its function, and so by a bool.
 pub fn put_row(
     out: &mut Vec<u8>,
     number: usize,

@@ -57,6 +57,7 @@ fn at_or_after(start: Option<u32>, place: u32) -> bool
 }
 
 // From which place on the chain of each link is known, upward: halves give joint secrets, these with the roots give links, and links give roots.
+// Its loop is that of `links_open`, whose answers it must not share.
 fn chain_starts(heap: Global, readings: &[Side], count: usize) -> Result<Vec<Option<u32>>, Fault>
     ensures { IfOk result (λ v. (vec_len v ≡ count) × Starts (map state_of readings.now) v.items) }
 {

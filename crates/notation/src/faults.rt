@@ -42,7 +42,7 @@ impl<T: Drop> From<AllocFailed<T>> for Fault {
     }
 }
 
-// Output is written to memory, and fails only where there is none.
+// For what is written to a Vec, which has no error but that there is no memory; no step of a rehearsal writes anywhere else.
 impl From<io::Error> for Fault {
     ghost from_gives = { λ _ r. r ≡ Memory };
 

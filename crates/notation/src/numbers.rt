@@ -9,7 +9,7 @@ fn with_digit(n: u32, b: u8) -> Option<u32>
     n.checked_mul(10)?.checked_add(char::from(b).to_digit(10)?)
 }
 
-// A number of one decimal digit or more, at most 4,294,967,295.
+// A number of one decimal digit or more, at most 4,294,967,295; no `FromStr`, since it stands among the bytes of a line.
 pub fn parse_number(digits: &[u8]) -> Option<u32>
     ensures { result ≡ number_of digits.now }
 {

@@ -7,8 +7,8 @@ use crate::faults::Fault;
 use std::alloc::Global;
 use std::io::Write;
 
-// Where the reading of an escape stands.
-#[derive(Clone, Copy)]
+// Where the reading of an escape stands; `Bad` is a state too, since in the definition a bad escape is read on to the end.
+#[derive(Clone, Copy, Debug, PartialEq, Eq)]
 pub enum Escape {
     // outside an escape
     Plain,
@@ -48,7 +48,7 @@ fn put_byte(out: &mut Vec<u8>, b: u8) -> Result<(), Fault>
     Ok(())
 }
 
-// Appends a text, as output writes it.
+// Appends a text, as output writes it; byte by byte, since there may be no memory for any of them.
 pub fn put_text(out: &mut Vec<u8>, text: &[u8]) -> Result<(), Fault>
     ensures { OnOk result (out.new.items ≡ out.old.items ++ escaped text.now) }
 {
@@ -58,7 +58,7 @@ pub fn put_text(out: &mut Vec<u8>, text: &[u8]) -> Result<(), Fault>
     Ok(())
 }
 
-// Where the reading of an escape stands after one more byte.
+// Where the reading of an escape stands after one more byte; by cases, as the definition has it, and apart from what the byte adds.
 fn after_byte(escape: Escape, b: u8) -> Escape
     ensures { result ≡ after escape b }
 {
@@ -103,6 +103,7 @@ pub fn unescape(heap: Global, raw: &[u8]) -> Result<Option<Vec<u8>>, Fault>
         put_emitted(&mut text, escape, *b)?;
         escape = after_byte(escape, *b);
     }
+    // a text is whole only where it ends outside an escape
     match escape {
         Escape::Plain => Ok(Some(text)),
         _ => Ok(None),

@@ -13,7 +13,7 @@ pub fn begins(line: &[u8], word: &[u8]) -> bool
     line.starts_with(word)
 }
 
-// The place of the first space, or the length where there is none.
+// The place of the first space, or the length where there is none; a place, since both parts of the line are asked for.
 pub fn space(line: &[u8]) -> usize
     ensures value { result ≡ space_at line.now }
     ensures bound { result ≤ length line.now }

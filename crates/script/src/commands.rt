@@ -1,4 +1,4 @@
-// The lines of a script.
+// The lines of a script; the words of both sides are written out, as they are defined, and a loop would have to put them together.
 ghost use Rattle.std.specs.Prelude.{◌≡◌};
 ghost use Rattle.script.specs.Commands.{quiet_of, read_of, send_of, send_with, stop_either, stop_of, stop_with, deliver_of, flip_of, parsed};
 
@@ -8,7 +8,7 @@ use runs::types::Who;
 use stage::types::{Stop, When};
 
 // What a line asks for.
-#[derive(Clone, Copy)]
+#[derive(Clone, Copy, Debug, PartialEq, Eq)]
 pub enum Command {
     // a blank line, or one that begins with #
     Nothing,
@@ -112,7 +112,7 @@ fn deliver_line(line: &[u8]) -> Option<Command>
     flip_part(number, rest)
 }
 
-// Reads a line of a script; none where it is no command.
+// Reads a line of a script; none where it is no command. The kinds are tried one behind the other, and the first that fits is it.
 pub fn parse(line: &[u8]) -> Option<Command>
     ensures { result ≡ parsed line.now }
 {

@@ -11,7 +11,7 @@ use runs::types::Who;
 use stage::types::{Sending, Taking};
 use std::io::Write;
 
-// What a send came to; `number` is the message's, if there is one.
+// What a send came to; `number` is the message's, if there is one. An arm for each line, though two differ in a word alone.
 pub fn put_sending(out: &mut Vec<u8>, number: usize, outcome: Sending) -> Result<(), Fault>
     ensures { OnOk result (out.new.items ≡ out.old.items ++ sending_line number outcome) }
 {
@@ -82,13 +82,16 @@ fn put_link(out: &mut Vec<u8>, drawn: u32, least: u32, place: u32) -> Result<(),
     ensures { OnOk result (out.new.items ≡ out.old.items ++ link_text drawn least place) }
 {
     match drawn.checked_sub(least) {
-        Some(link) => write!(out, "{link}/{place}")?,
+        Some(link) => {
+            let mark = Mark { link, place };
+            write!(out, "{mark}")?
+        }
         None => write!(out, "-")?,
     }
     Ok(())
 }
 
-// The marks of the keys put aside, each behind a space; `-` where there are none.
+// The marks of the keys put aside, each behind a space; `-` where there are none. A loop, since any of them may find no memory.
 fn put_marks(out: &mut Vec<u8>, marks: &[Mark]) -> Result<(), Fault>
     ensures { OnOk result (out.new.items ≡ out.old.items ++ marks_text marks.now) }
 {

@@ -77,24 +77,28 @@ fn play_deliver(
 ) -> Result<Outcome, Fault>
     ensures { IfOk result (DeliverLine number flip player.old player.new out.old.items out.new.items) }
 {
-    let taking = match player.deliver(number, flip)? {
-        Ok(taking) => taking,
-        Err(why) => return Ok(Err(BadLine::Delivery(why))),
-    };
-    if let Some(letter) = player.find(number) {
+    let taken = player.deliver(number, flip)?;
+    // a message that was delivered is found: it has that number
+    if let (Ok(taking), Some(letter)) = (taken, player.find(number)) {
         output::put_taking(out, number, letter.text.as_slice(), taking)?;
     }
-    Ok(Ok(Played::Done))
+    Ok(
+        taken
+            .map(|_| Played::Done)
+            .map_err(|why| BadLine::Delivery(why)),
+    )
 }
 
 // `stop S before N` and `stop S after N`
 fn play_plan(player: &mut Player, who: Who, stop: Stop) -> Result<Outcome, Fault>
     ensures { IfOk result (PlanLine who stop player.old player.new) }
 {
-    match player.plan(who, stop)? {
-        Ok(()) => Ok(Ok(Played::Done)),
-        Err(why) => Ok(Err(BadLine::Stop(why))),
-    }
+    Ok(
+        player
+            .plan(who, stop)?
+            .map(|()| Played::Done)
+            .map_err(|why| BadLine::Stop(why)),
+    )
 }
 
 // `read S`
@@ -113,7 +117,7 @@ fn behind(line: &[u8], at: usize) -> &[u8]
     line.get(at..).unwrap_or(&[])
 }
 
-// Plays one line of a script.
+// Plays one line of a script, by what it asks for: an arm for each, as it is defined.
 pub fn play(player: &mut Player, line: &[u8], out: &mut Vec<u8>) -> Result<Outcome, Fault>
     ensures { IfOk result (LinePlayed (parsed line.now) line.now player.old player.new out.old.items out.new.items) }
 {

@@ -1,4 +1,4 @@
-// A whole script, line by line.
+// A whole script, line by line; the output stands beside the player, since it is the caller's and may be another at each line.
 ghost use Rattle.std.specs.Prelude.{Some, ◌≡◌, IfOk, OnOk};
 ghost use Rattle.stage.specs.Players.{world_of};
 ghost use Rattle.script.specs.Reasons.{bad_script_text};

@@ -16,7 +16,8 @@ pub struct Device {
     pub writes: u32,
     // the stops planned and still to come, by the numbers of their writes
     pub stops: BTreeMap<u32, When>,
-    // the messages sealed with their key, those that left, those that were opened, and those whose text was handed out
+    // the messages sealed with their key, those that left, those that were opened, and those whose text was handed out;
+    // each a list in the order of the steps, as the laws of a run have it
     pub sealed: Vec<Message>,
     pub left: Vec<Message>,
     pub opened: Vec<Message>,

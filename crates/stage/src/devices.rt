@@ -1,4 +1,5 @@
 // The steps of a device: the page is written first, and only then is a message sealed, or a text handed out.
+// `send` and `take` are alike but for what they note and come to; a refusal is one of these and no error, and so is handed on by hand.
 ghost use Rattle.std.specs.Prelude.{◌≡◌, [], IfOk};
 ghost use Rattle.ratchet.specs.State.{state_of};
 ghost use Rattle.runs.specs.World.{among};
@@ -41,6 +42,7 @@ impl Device {
     }
 
     // Plans a stop, for a write that is to come and has none yet.
+    // A Result in a Result: a `Fault` ends the rehearsal and nothing is stated of it, a stop that can't be set is an answer that the contract speaks of.
     pub fn plan(&mut self, stop: Stop) -> Result<Result<(), BadStop>, Fault>
         ensures plan { IfOk result (Planned stop (plan_of self.old) (plan_of self.new)) }
         ensures party { party_of self.new ≡ party_of self.old }
@@ -78,7 +80,7 @@ impl Device {
         Ok(Sending::Sent(message))
     }
 
-    // Takes a message; `opens` says whether it opens.
+    // Takes a message; `opens` says whether it opens, a bool as for the step of the side.
     pub fn take(&mut self, message: Message, opens: bool) -> Result<Taking, Fault>
         ensures { IfOk result (TakeDone message opens self.old self.new) }
     {

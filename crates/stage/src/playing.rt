@@ -1,4 +1,5 @@
 // The steps of a rehearsal: each is an event of the world that the player holds.
+// Each says what becomes of the world and of the letters, since a script's theorems are about these.
 ghost use Rattle.std.specs.Prelude.{◌≡◌, true, [], ◌∷◌, ◌++◌, map, length, IfOk, OnOk};
 ghost use Rattle.ratchet.specs.State.{state_of};
 ghost use Rattle.runs.specs.World.{start, step, reads, among, party, other};
@@ -18,7 +19,7 @@ use ratchet::types::Message;
 use runs::types::Who;
 use std::alloc::Global;
 
-// A message gets the next number.
+// A message gets the next number; apart from `send`, for what is kept of a letter.
 fn keep_letter(letters: &mut Vec<Letter>, letter: Letter) -> Result<(), Fault>
     ensures { OnOk result (map post_of letters.new.items ≡ map post_of letters.old.items ++ post_of letter ∷ []) }
 {
@@ -59,7 +60,7 @@ impl Player {
         }
     }
 
-    // The device of one side.
+    // The device of one side, by name: the two are fields, as in the world.
     fn device(&self, who: Who) -> &Device
         ensures { result.now ≡ device who self.now }
     {
@@ -124,7 +125,7 @@ impl Player {
         self.letters.get(number.checked_sub(1)?)
     }
 
-    // A message of one side that left comes to the other.
+    // A message of one side that left comes to the other; `whole` is false where a bit was turned.
     fn hand_over(&mut self, from: Who, message: Message, whole: bool) -> Result<Taking, Fault>
         requires { among message (party from (world_of self.old)).left ≡ true }
         ensures { IfOk result (Delivered from message whole self.old self.new) }
@@ -147,6 +148,7 @@ impl Player {
     }
 
     // The other side takes message `number`, with a bit turned if one is named.
+    // As in `plan`, a delivery that can't be made is an answer beside the `Fault`; it is handed on by hand, since a step follows that may end in one.
     pub fn deliver(
         &mut self,
         number: usize,

@@ -16,7 +16,7 @@ pub struct Stop {
 }
 
 // What a side's send comes to in a rehearsal; none of the four is an error, and each has a line of its own in the output.
-#[derive(Clone, Copy)]
+#[derive(Clone, Copy, Debug, PartialEq, Eq)]
 pub enum Sending {
     // it left
     Sent(Message),
@@ -28,7 +28,7 @@ pub enum Sending {
 }
 
 // What taking a message comes to in a rehearsal; none of the four is an error, and each has a line of its own in the output.
-#[derive(Clone, Copy)]
+#[derive(Clone, Copy, Debug, PartialEq, Eq)]
 pub enum Taking {
     // the text was handed out
     Opened,

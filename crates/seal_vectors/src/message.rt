@@ -15,6 +15,7 @@ pub fn write(key: &MessageKey, header: &[u8; 47], text: &[u8], message: &mut [u8
         return None;
     }
     let end = message.len();
+    // by its pattern, which gives the proof the case of the answer: `.ok()?` does not
     let Ok(size) = seal(key, header, text, &mut message[47..end]) else {
         return None;
     };

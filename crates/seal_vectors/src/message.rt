@@ -1,4 +1,4 @@
-// A message in one lent buffer: a header of 47 bytes, the covered text and its tag.
+// A message in one lent buffer, with its length as the answer: a header of 47 bytes, the covered text and its tag.
 ghost use Rattle.std.specs.Prelude.{◌≡◌, ℕ, ◌+◌, ◌≤◌, List, ◌++◌, length, drop, Some, MatchOption};
 ghost use Rattle.seal.specs.Sealing.{sealed};
 

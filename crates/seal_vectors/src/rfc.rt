@@ -1,4 +1,5 @@
 // The ChaCha20 values of RFC 8439: sections 2.3.2 and 2.4.2, appendices A.1 and A.2.
+// Each is a call and no row of a table, since their texts have other lengths.
 ghost use Rattle.std.specs.Prelude.{◌<◌};
 
 use crate::sealed::hex;

@@ -1,4 +1,5 @@
 // Texts sealed and opened, and what is no sealed text refused.
+// Key, header and body are apart, since a forgery changes one of them and leaves the others.
 ghost use Rattle.std.specs.Prelude.{◌≤◌};
 
 use octets::count_up;

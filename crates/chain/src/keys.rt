@@ -13,5 +13,5 @@ pub struct ChainKey(pub [u8; 32]);
 pub struct JointSecret(pub [u8; 32]);
 
 // The half of a key that everybody may know.
-#[derive(Clone, Copy)]
+#[derive(Clone, Copy, Debug, PartialEq, Eq)]
 pub struct PublicHalf(pub [u8; 32]);

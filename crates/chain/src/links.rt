@@ -35,6 +35,7 @@ pub fn advance(chain: &ChainKey) -> (MessageKey, ChainKey)
 pub fn skip(chain: &ChainKey, places: u32) -> ChainKey
     ensures { Skipped chain.now.0 places result.0 }
 {
+    // By hand, here and in `walk`: a key has no `Clone`, so that it isn't copied unseen.
     let mut at = ChainKey(chain.0);
     // A count: each value comes from the one before it.
     for _place in 0..places {

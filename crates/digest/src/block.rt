@@ -105,7 +105,7 @@ fn last_rounds(x: Work) -> [u32; 8]
     one_round(s14, constant(63), w[15])
 }
 
-// A word of a block, the high byte first.
+// A word of a block, the high byte first. Who reads words says in which order of bytes, so each crate has such a line.
 fn word_at(block: &[u8; 64], i: usize) -> u32
     requires { i < 16 }
     ensures { result ≡ word block.now i }
@@ -157,7 +157,8 @@ pub fn absorb<'a>(value: &mut [u32; 8], message: &'a [u8]) -> &'a [u8]
     behind
 }
 
-// Writes words as bytes, the high byte first.
+// Writes words as bytes, the high byte first. The stream's are written low byte first, and a parameter for the order would be no plainer.
+// By number, since of what is written through chunks_mut a proof learns nothing.
 pub fn write_words(words: &[u32], out: &mut [u8])
     requires { length out.old ≡ 4 * length words.now }
     ensures { out.new ≡ bytes words.now }

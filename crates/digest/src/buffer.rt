@@ -21,7 +21,7 @@ pub fn write_length(block: &mut [u8; 64], bits: u64)
     put(block, 56, &bits.to_be_bytes());
 }
 
-// Takes each byte exclusive-or another.
+// Takes each byte exclusive-or another, which is one for all of them; the stream's is another at each place.
 pub fn xor_each(bytes: &mut [u8], pad: u8)
     ensures { bytes.new ≡ xored pad bytes.old }
 {

@@ -10,6 +10,7 @@ use crate::streaming::{Hasher, sha256};
 const PADS: [u8; 2] = [0x36, 0x5c];
 
 // The inner hash, of its pad and the message so far, and the outer one, of its pad.
+// A contract says of each by itself that it is fresh: a word for both would be no shorter.
 #[derive(Clone, Copy)]
 pub struct Mac {
     inner: Hasher,

@@ -7,7 +7,7 @@ ghost use Rattle.digest.specs.Hmac.{hmac_sha_256};
 
 use digest::{hmac, sha256};
 
-// Copies a digest to a place with room for it; false where there is none.
+// Copies a digest to a place with room for it; false where there is none, for C to read. The three clauses stand again at each name of C.
 fn hand_out(digest: [u8; 32], out: &mut [u8]) -> bool
     ensures room { (result ≡ true) ↔ (length out.old ≡ 32) }
     ensures done { result ≡ true → out.new ≡ digest }
@@ -20,6 +20,7 @@ fn hand_out(digest: [u8; 32], out: &mut [u8]) -> bool
     true
 }
 
+// C reads whether it was written.
 #[unsafe(no_mangle)]
 pub extern "C" fn digest_sha256(message: &[u8], out: &mut [u8]) -> bool
     ensures room { (result ≡ true) ↔ (length out.old ≡ 32) }
@@ -29,6 +30,7 @@ pub extern "C" fn digest_sha256(message: &[u8], out: &mut [u8]) -> bool
     hand_out(sha256(message), out)
 }
 
+// C reads whether it was written.
 #[unsafe(no_mangle)]
 pub extern "C" fn digest_hmac(key: &[u8], message: &[u8], out: &mut [u8]) -> bool
     ensures room { (result ≡ true) ↔ (length out.old ≡ 32) }

@@ -1,4 +1,5 @@
 // Prints the digests, tags and key material of the standards' own examples: a name and the bytes, a line each.
+// Each example is a call and no row of a table, since their parts have other lengths.
 #![tactic(auto)]
 
 use digest::{Hasher, TooLong, hkdf, hmac, hmac_parts, sha256};

@@ -18,7 +18,7 @@ pub struct NumberBox {
     fresh: Option<u64>,
 }
 
-// The public half of a key.
+// The public half of a key. Its first byte is the side's case as a number, 0 or 1, in the order of `Who`.
 fn half_of(who: Who, draw: u64) -> PublicHalf
     ensures { result.0 ≡ number_half (key_of who draw) }
 {

@@ -2,6 +2,7 @@
 ghost use Rattle.std.specs.Prelude.{◌≡◌, ◌+◌, ◌≤◌, ◌++◌, length, take, drop};
 
 // Copies a part into lent memory, from a place on.
+// It has a `requires`, as the next one: our own crates call them, in inner loops, where a refusal could not stand.
 pub fn put<T: Copy>(items: &mut [T], at: usize, part: &[T])
     requires { at + length part.now ≤ length items.old }
     ensures { items.new ≡ take at items.old ++ (part.now ++ drop (at + length part.now) items.old) }

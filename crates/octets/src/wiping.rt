@@ -5,11 +5,13 @@
 ghost use Rattle.std.specs.Prelude.{◌≡◌, ◌<◌, length, replicate};
 
 // Overwrites each place with one value, and answers what stands at one of them.
+// It has a `requires`: our own crates call it, on arrays that are never empty.
 pub fn wipe<T: Copy>(items: &mut [T], blank: T, place: usize) -> T
     requires { 0 < length items.old }
     ensures written { items.new ≡ replicate (length items.old) blank }
     ensures read { result ≡ blank }
 {
+    // A loop: `fill` asks for a `clone` that can't fail, of which `Copy` says nothing.
     for item in items.iter_mut() {
         *item = blank;
     }

@@ -14,7 +14,7 @@ use ratchet::types::Mark;
 use session::Session;
 use std::array;
 
-// The number in the four bytes from a place on.
+// The number in the four bytes from a place on. Who reads words says in which order of bytes, so each crate has such a line.
 fn four_at(bytes: &[u8], at: usize) -> u32
     requires { at + 4 ≤ length bytes.now }
     ensures { result ≡ four_at bytes.now at }

@@ -9,6 +9,8 @@ use ratchet::sides::Side;
 use ratchet::types::Mark;
 use seal::MessageKey;
 
+// The other places of a page stand as numbers, as its layout in specs/ gives them.
+
 // What every page begins with.
 pub(crate) const VERSION: u8 = 1;
 

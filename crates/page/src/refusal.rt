@@ -5,7 +5,7 @@ ghost use Rattle.std.specs.Prelude.{◌≡◌};
 #[derive(Clone, Copy, Debug, PartialEq, Eq)]
 pub struct BadPage;
 
-// The number that programs print.
+// The number that programs print: one behind those of the bookkeeping's refusals, which are another type.
 impl From<BadPage> for u8 {
     ghost from_gives = { λ _ n. n ≡ 7 };
 

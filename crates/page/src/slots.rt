@@ -14,12 +14,13 @@ fn fill(slots: &mut [MessageKey], entries: &[u8])
     requires { 40 * length slots.old ≤ length entries.now }
     ensures { map key_in slots.new ≡ keys_in (length slots.old) entries.now }
 {
+    // By number: of what is written through a zip of `iter_mut` the proof learns nothing.
     for (i, slot) in slots.iter_mut().enumerate() {
         slot.0 = part_at(entries, ENTRY * i + 8);
     }
 }
 
-// Overwrites slots with zeros.
+// Overwrites slots with zeros. A loop of its own: keys are not Copy, as `octets::wipe` asks, and have no Clone, as `fill` asks.
 fn clear(slots: &mut [MessageKey])
     ensures { slots.new ≡ replicate (length slots.old) (record { 0 = blank }) }
 {

@@ -57,7 +57,7 @@ fn is_unsent(session: &Session) -> bool
     session.side.sent == 0 && is_none(&session.sending)
 }
 
-// Whether counts and chains go with the number of the last key.
+// Whether counts and chains go with the number of the last key. By ifs: what is asked at 0, at 1, at 2 and above 2 overlaps.
 fn is_begun(session: &Session) -> bool
     ensures { Decides result (Begun (state_of session.now.side) session.now.sending.0 session.now.taking.0) }
 {

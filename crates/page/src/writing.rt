@@ -24,7 +24,7 @@ fn put_front(session: &Session, out: &mut [u8; 20659])
     put(out, 113, &session.taking.0);
 }
 
-// All before the digest; the answer is its length.
+// All before the digest, into the lent output; so the answer is its length.
 fn put_body(session: &Session, slots: &[MessageKey; 512], out: &mut [u8; 20659]) -> usize
     ensures bytes { out.new ≡ body_bytes (held_of session.now slots.now) ++ drop result out.old }
     ensures size { result ≡ 147 + 40 * session.now.side.count }

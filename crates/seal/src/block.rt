@@ -10,7 +10,7 @@ use octets::{part_at, put, wipe};
 // "expand 32-byte k"
 const EXPAND: [u32; 4] = [0x61707865, 0x3320646e, 0x79622d32, 0x6b206574];
 
-// The word at a place of some bytes, its low byte first.
+// The word at a place of some bytes, its low byte first. Who reads words says in which order of bytes, so each crate has such a line.
 fn load(bytes: &[u8], at: usize) -> u32
     requires { at + 4 ≤ length bytes.now }
     ensures { result ≡ word bytes.now at }
@@ -44,15 +44,18 @@ pub(crate) fn initial_state(key: &MessageKey, nonce: &Nonce, counter: u32) -> [u
     ]
 }
 
-// Adds each of the others to the word at its place.
+// Adds each of the others to the word at its place: in place, where the digest's makes a new array.
 fn add_words(words: &mut [u32; 16], others: &[u32; 16])
     ensures { words.new ≡ zip2 plus words.old others.now }
 {
+    // By number: of what is written through a zip of `iter_mut` the proof learns nothing.
     for (i, word) in words.iter_mut().enumerate() {
         *word = word.wrapping_add(others[i]);
     }
 }
 
+// The words as bytes, the low byte first. The digest's are written high byte first, and a parameter for the order would be no plainer.
+// By number, since of what is written through chunks_mut a proof learns nothing.
 fn serialize(words: &[u32; 16], bytes: &mut [u8; 64])
     ensures { bytes.new ≡ serialized words.now }
 {
@@ -61,6 +64,7 @@ fn serialize(words: &[u32; 16], bytes: &mut [u8; 64])
     }
 }
 
+// Each byte exclusive or that of the pad at its place; by number, as the words above.
 fn xor_bytes(text: &mut [u8], pad: &[u8; 64])
     requires { length text.old ≤ 64 }
     ensures { text.new ≡ zip2 bit_xor text.old pad.now }

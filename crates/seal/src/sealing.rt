@@ -44,7 +44,7 @@ fn cover(key: &MessageKey, text: &[u8], out: &mut [u8])
     apply(key, &Nonce([0; 12]), FIRST, out);
 }
 
-// Seals a text behind a header: the covered text and its tag stand at the front of the output, and the answer is their length.
+// Seals a text behind a header: the covered text and its tag stand at the front of the output, which is lent, as asked for; so the answer is their length.
 pub fn seal(
     key: &MessageKey,
     header: &[u8],
@@ -66,7 +66,7 @@ pub fn seal(
     Ok(size + TAG_SIZE)
 }
 
-// What `open` answers and leaves. Apart, since its laws follow from this answer alone, whichever it is.
+// What `open` answers, a length of lent output as well, and leaves. Apart, since its laws follow from this answer alone, whichever it is.
 fn uncover(key: &MessageKey, header: &[u8], body: &[u8], out: &mut [u8]) -> Result<usize, OpenError>
     ensures { OpenAnswer key.now.0 header.now body.now out.old out.new result }
 {
@@ -87,7 +87,7 @@ fn uncover(key: &MessageKey, header: &[u8], body: &[u8], out: &mut [u8]) -> Resu
     Ok(size)
 }
 
-// Opens what stands behind a header, a covered text and its tag: the text stands at the front of the output, and the answer is its length.
+// Opens what stands behind a header, a covered text and its tag: the text stands at the front of the output, which is lent, as asked for; so the answer is its length.
 pub fn open(
     key: &MessageKey,
     header: &[u8],

@@ -9,7 +9,7 @@ ghost use Rattle.seal.specs.Answers.{Sealed, Unsealed, Opened, Unopened};
 
 use seal::{MessageKey, Nonce, open, seal, stream};
 
-// 0: done; 1: the text is too long, and was left as it was.
+// C reads the number. 0: done; 1: the text is too long, and was left as it was.
 #[unsafe(no_mangle)]
 pub extern "C" fn seal_bench_stream(
     key: &[u8; 32],
@@ -27,7 +27,7 @@ pub extern "C" fn seal_bench_stream(
     }
 }
 
-// How many bytes were written; 0: refused.
+// C reads the number: how many bytes were written; 0: refused.
 #[unsafe(no_mangle)]
 pub extern "C" fn seal_bench_seal(
     key: &[u8; 32],
@@ -44,7 +44,7 @@ pub extern "C" fn seal_bench_seal(
     size
 }
 
-// 0: opened; 1: refused.
+// C reads the number. 0: opened; 1: refused.
 #[unsafe(no_mangle)]
 pub extern "C" fn seal_bench_open(key: &[u8; 32], header: &[u8], body: &[u8], out: &mut [u8]) -> u32
     ensures done { result ≡ 0 → (size : ℕ) × Opened key.now header.now body.now out.old out.new size }

@@ -1,4 +1,4 @@
-// A message in one lent buffer: a header of 47 bytes, the covered text and its tag.
+// A message in one lent buffer, with its length as the answer: a header of 47 bytes, the covered text and its tag.
 ghost use Rattle.std.specs.Prelude.{◌≡◌, ℕ, ◌+◌, ◌≤◌, List, ◌++◌, length, drop, Some, MatchOption};
 ghost use Rattle.seal.specs.Sealing.{sealed};
 
@@ -15,6 +15,7 @@ pub fn write(key: &MessageKey, header: &[u8; 47], text: &[u8], message: &mut [u8
         return None;
     }
     let end = message.len();
+    // by its pattern, which gives the proof the case of the answer: `.ok()?` does not
     let Ok(size) = seal(key, header, text, &mut message[47..end]) else {
         return None;
     };

@@ -1,4 +1,5 @@
 // The ChaCha20 values of RFC 8439: sections 2.3.2 and 2.4.2, appendices A.1 and A.2.
+// Each is a call and no row of a table, since their texts have other lengths.
 ghost use Rattle.std.specs.Prelude.{◌<◌};
 
 use crate::sealed::hex;
@@ -11,22 +12,13 @@ const SCATTERED: [u8; 32] = [
     0x47, 0x39, 0x17, 0xc1, 0x40, 0x2b, 0x80, 0x09, 0x9d, 0xca, 0x5c, 0xbc, 0x20, 0x70, 0x75, 0xc0,
 ];
 
-// A key of zeros but for one byte.
-fn key_with(at: usize, byte: u8) -> MessageKey
-    requires { at < 32 }
+// Zeros but for one byte.
+fn zeros_with<const N: usize>(at: usize, byte: u8) -> [u8; N]
+    requires { at < N }
 {
-    let mut key = [0; 32];
-    key[at] = byte;
-    MessageKey(key)
-}
-
-// A nonce of zeros but for one byte.
-fn nonce_with(at: usize, byte: u8) -> Nonce
-    requires { at < 12 }
-{
-    let mut nonce = [0; 12];
-    nonce[at] = byte;
-    Nonce(nonce)
+    let mut bytes = [0; N];
+    bytes[at] = byte;
+    bytes
 }
 
 fn show(
@@ -45,13 +37,34 @@ fn show(
 }
 
 fn blocks(rt: &HostRuntime) -> io::Result<()> {
-    let zero = key_with(0, 0);
-    let none = nonce_with(0, 0);
+    let zero = MessageKey([0; 32]);
+    let none = Nonce([0; 12]);
     show(rt, "A.1.1", &zero, &none, 0, &mut [0; 64])?;
     show(rt, "A.1.2", &zero, &none, 1, &mut [0; 64])?;
-    show(rt, "A.1.3", &key_with(31, 1), &none, 1, &mut [0; 64])?;
-    show(rt, "A.1.4", &key_with(1, 0xff), &none, 2, &mut [0; 64])?;
-    show(rt, "A.1.5", &zero, &nonce_with(11, 2), 0, &mut [0; 64])
+    show(
+        rt,
+        "A.1.3",
+        &MessageKey(zeros_with(31, 1)),
+        &none,
+        1,
+        &mut [0; 64],
+    )?;
+    show(
+        rt,
+        "A.1.4",
+        &MessageKey(zeros_with(1, 0xff)),
+        &none,
+        2,
+        &mut [0; 64],
+    )?;
+    show(
+        rt,
+        "A.1.5",
+        &zero,
+        &Nonce(zeros_with(11, 2)),
+        0,
+        &mut [0; 64],
+    )
 }
 
 fn texts(rt: &HostRuntime) -> io::Result<()> {
@@ -62,16 +75,16 @@ fn texts(rt: &HostRuntime) -> io::Result<()> {
     show(
         rt,
         "A.2.1",
-        &key_with(0, 0),
-        &nonce_with(0, 0),
+        &MessageKey([0; 32]),
+        &Nonce([0; 12]),
         0,
         &mut [0; 64],
     )?;
     show(
         rt,
         "A.2.2",
-        &key_with(31, 1),
-        &nonce_with(11, 2),
+        &MessageKey(zeros_with(31, 1)),
+        &Nonce(zeros_with(11, 2)),
         1,
         &mut ietf,
     )?;
@@ -79,7 +92,7 @@ fn texts(rt: &HostRuntime) -> io::Result<()> {
         rt,
         "A.2.3",
         &MessageKey(SCATTERED),
-        &nonce_with(11, 2),
+        &Nonce(zeros_with(11, 2)),
         42,
         &mut toves,
     )
@@ -97,14 +110,21 @@ pub fn run(rt: &HostRuntime) -> io::Result<()> {
         1,
         &mut [0; 64],
     )?;
-    show(rt, "2.4.2", &key, &nonce_with(7, 0x4a), 1, &mut sunscreen)?;
+    show(
+        rt,
+        "2.4.2",
+        &key,
+        &Nonce(zeros_with(7, 0x4a)),
+        1,
+        &mut sunscreen,
+    )?;
     blocks(rt)?;
     texts(rt)?;
     show(
         rt,
         "last counter, one block",
         &key,
-        &nonce_with(0, 0),
+        &Nonce([0; 12]),
         0xffff_ffff,
         &mut [0; 64],
     )?;
@@ -112,7 +132,7 @@ pub fn run(rt: &HostRuntime) -> io::Result<()> {
         rt,
         "last counter, a byte more",
         &key,
-        &nonce_with(0, 0),
+        &Nonce([0; 12]),
         0xffff_ffff,
         &mut [0; 65],
     )

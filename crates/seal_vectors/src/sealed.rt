@@ -1,4 +1,5 @@
 // Texts sealed and opened, and what is no sealed text refused.
+// Key, header and body are apart, since a forgery changes one of them and leaves the others.
 ghost use Rattle.std.specs.Prelude.{◌≤◌};
 
 use octets::count_up;
@@ -22,6 +23,7 @@ fn show_refusal(rt: &HostRuntime, what: &str, why: &str, output: &[u8]) -> io::R
     println!(rt; "{what}: {why}, output {left}")
 }
 
+// Opens what is to be refused. The words of an error stand here and below, where alone they are printed.
 fn refuse_open(
     rt: &HostRuntime,
     what: &str,
@@ -39,6 +41,7 @@ fn refuse_open(
     show_refusal(rt, what, why, &output)
 }
 
+// Seals into an output that is one byte short.
 fn refuse_seal(
     rt: &HostRuntime,
     key: &MessageKey,
@@ -85,7 +88,7 @@ fn forgeries(
     Ok(())
 }
 
-// A text sealed into an output and opened into another, with all that the two hold then.
+// A text sealed into an output and opened into another, with all that the two hold then; how many bytes were sealed, if both were done.
 fn round_trip(
     rt: &HostRuntime,
     key: &MessageKey,
@@ -93,21 +96,21 @@ fn round_trip(
     text: &[u8],
     out: &mut [u8],
     plain: &mut [u8],
-) -> io::Result<usize> {
+) -> io::Result<Option<usize>> {
     let size = text.len();
     let Ok(end) = seal(key, header, text, out) else {
         println!(rt; "not sealed")?;
-        return Ok(0);
+        return Ok(None);
     };
     print!(rt; "sealed {size} ")?;
     hex(rt, out)?;
     let Ok(opened) = open(key, header, &out[0..end], plain) else {
         println!(rt; "not opened")?;
-        return Ok(0);
+        return Ok(None);
     };
     print!(rt; "opened {opened} ")?;
     hex(rt, plain)?;
-    Ok(end)
+    Ok(Some(end))
 }
 
 fn case<const N: usize>(rt: &HostRuntime, n: u8) -> io::Result<()>
@@ -118,12 +121,12 @@ fn case<const N: usize>(rt: &HostRuntime, n: u8) -> io::Result<()>
     let key = MessageKey(count_up(n.wrapping_mul(17), 7));
     let other = MessageKey(count_up(n.wrapping_mul(17), 9));
     let mut out = [170; 1024];
-    let end = round_trip(rt, &key, &header, &text, &mut out, &mut [170; 1024])?;
+    let sealed = round_trip(rt, &key, &header, &text, &mut out, &mut [170; 1024])?;
     refuse_seal(rt, &key, &header, &text, &mut [170; 1024])?;
-    if end > 1024 {
-        return println!(rt; "another size");
+    match sealed {
+        Some(end) if end <= 1024 => forgeries(rt, &key, &mut header, &mut out[0..end], &other),
+        _ => println!(rt; "another size"),
     }
-    forgeries(rt, &key, &mut header, &mut out[0..end], &other)
 }
 
 pub fn run(rt: &HostRuntime) -> io::Result<()> {

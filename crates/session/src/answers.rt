@@ -1,10 +1,10 @@
-// What taking a message comes to: this form is asked for, and not a Result.
+// What taking a message comes to: this form is asked for, and not a Result. So a step that refuses is handed on by a match, and no `?`.
 use crate::sessions::Session;
 use ratchet::types::Refusal;
 
 #[derive(Drop)]
 pub enum Taken {
-    // the session after it, and how many bytes the text has
+    // the session after it, and how many bytes of the output, which is lent, as asked for, the text has
     Opened(Session, usize),
     // the session as it was
     Refused(Session, Refusal),

@@ -8,6 +8,6 @@ pub(crate) struct Begun {
     // its chain from its beginning, and behind the message
     pub chain: ChainKey,
     pub next: ChainKey,
-    // how many bytes the text has
+    // how many bytes the text has, which stands in lent output, as asked for
     pub size: usize,
 }

@@ -4,7 +4,7 @@ ghost use Rattle.exchange.specs.Held.{blank};
 
 use seal::MessageKey;
 
-// A slot that holds no key.
+// A slot that holds no key: a const, so that it can be repeated, since keys are not Copy.
 const NONE: MessageKey = MessageKey([0; 32]);
 
 // The slots of a session that begins: each is zero.

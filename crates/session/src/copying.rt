@@ -22,7 +22,7 @@ impl Session {
     }
 }
 
-// A copy of the slots that keys are put aside in.
+// A copy of the slots that keys are put aside in; key by key, since keys have no Clone, for the same reason.
 pub fn copy_keys(slots: &[MessageKey; 512]) -> [MessageKey; 512]
     ensures { result ≡ slots.now }
 {

@@ -38,6 +38,7 @@ pub(crate) fn take_in_turn(
     let Some(size) = open_once(&mut key, message, text) else {
         return Taken::Refused(session, Refusal::NotOpened);
     };
+    // a match: `?` doesn't serve `Taken`
     match steps::take(session.side, message.header.message, true) {
         steps::Taken::Refused(_, why) => Taken::Refused(session, why),
         steps::Taken::Opened(side) => {

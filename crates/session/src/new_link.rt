@@ -48,6 +48,7 @@ fn open_new<B: KeyBox>(
 }
 
 // The side turns to the new link: it draws its next key, makes the link that it sends on, and puts aside what was passed over.
+// Seven parameters: a struct of them would be made for this one call and taken apart in it.
 fn turn<B: KeyBox>(
     session: Session,
     slots: &mut [MessageKey; 512],
@@ -61,6 +62,7 @@ fn turn<B: KeyBox>(
     ensures { Turning B.KeyBox.keys B.KeyBox.scheme session side begun header.now left slots.old slots.new own.old own.new result }
 {
     match renew(own, &header.half) {
+        // which of the two it was is not told apart for a message
         Err(_) => Taken::NoKey(session),
         Ok((half, onward)) => {
             let (root, sending) = link(&begun.root, &onward);
@@ -109,6 +111,7 @@ pub(crate) fn take_new<B: KeyBox>(
     let Some(begun) = open_new(&session, own, message, text) else {
         return Taken::Refused(session, Refusal::NotOpened);
     };
+    // a match: `?` doesn't serve `Taken`
     match steps::take(session.side, header.message, true) {
         steps::Taken::Refused(_, why) => Taken::Refused(session, why),
         steps::Taken::Opened(side) => turn(session, slots, own, header, begun, side, left),

@@ -1,9 +1,7 @@
 // Opening the text of a message.
-ghost use Rattle.std.specs.Prelude.{◌≡◌, ◌≤◌, take, Some, None, MatchOption};
+ghost use Rattle.std.specs.Prelude.{◌≡◌};
 ghost use Rattle.exchange.specs.Held.{blank};
-ghost use Rattle.exchange.specs.Exchanges.{text_under};
-ghost use Rattle.session.specs.Ours.{AnyBox};
-ghost use Rattle.session.specs.Takes.{parts_of};
+ghost use Rattle.session.specs.Takes.{OpensWith};
 
 use crate::incoming::Incoming;
 use seal::{MessageKey, open};
@@ -15,7 +13,7 @@ pub(crate) fn open_text(
     message: &Incoming,
     text: &mut [u8; 1000],
 ) -> Option<usize>
-    ensures { MatchOption result (AnyBox (λ o. text_under o key.now.0 (parts_of message.now) ≡ None)) (λ n. (n ≤ 1000) × AnyBox (λ o. text_under o key.now.0 (parts_of message.now) ≡ Some (take n text.new))) }
+    ensures { OpensWith key.now.0 message.now text.new result }
 {
     let (header, body) = message.bytes.split_at(HEADER_SIZE);
     open(key, header, body, text).ok()
@@ -27,7 +25,7 @@ pub(crate) fn open_once(
     message: &Incoming,
     text: &mut [u8; 1000],
 ) -> Option<usize>
-    ensures opens { MatchOption result (AnyBox (λ o. text_under o key.old.0 (parts_of message.now) ≡ None)) (λ n. (n ≤ 1000) × AnyBox (λ o. text_under o key.old.0 (parts_of message.now) ≡ Some (take n text.new))) }
+    ensures opens { OpensWith key.old.0 message.now text.new result }
     ensures blank { key.new.0 ≡ blank }
 {
     let opened = open_text(key, message, text);

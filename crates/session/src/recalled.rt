@@ -33,6 +33,7 @@ pub(crate) fn take_recalled(
     let Some(size) = open_text(&slots[i], message, text) else {
         return Taken::Refused(session, Refusal::NotOpened);
     };
+    // a match: `?` doesn't serve `Taken`
     match steps::take(session.side, message.header.message, true) {
         steps::Taken::Refused(_, why) => Taken::Refused(session, why),
         steps::Taken::Opened(side) => {

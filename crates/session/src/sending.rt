@@ -8,7 +8,7 @@ use ratchet::steps;
 use ratchet::types::Refused;
 use wire::Header;
 
-// Seals a text: the message stands at the front of the output, and the answer has its length. The chain goes one place on, so that its key can't be worked out again.
+// Seals a text: the message stands at the front of the output, which is lent, as asked for; so the answer has its length. The chain goes one place on, so that its key can't be worked out again.
 pub fn send(
     session: Session,
     text: &[u8],
@@ -16,6 +16,7 @@ pub fn send(
 ) -> Result<(Session, usize), Refused<Session>>
     ensures { Sending session text.now out.old out.new result }
 {
+    // a match and no `map_err`: what refuses hands back the bookkeeping, and the whole session is due
     let (side, message) = match steps::send(session.side, text.len()) {
         Ok(sent) => sent,
         Err(Refused { why, .. }) => return Err(Refused { side: session, why }),

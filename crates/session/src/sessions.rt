@@ -3,7 +3,7 @@ use chain::{ChainKey, PublicHalf, RootKey};
 use ratchet::sides::Side;
 
 // The bookkeeping, and the keys that go with it. The keys put aside stand in 512 slots beside it, in step with the marks;
-// they are lent at each call: this form is asked for, and no field.
+// they are lent at each call, as are the box and the output: this form is asked for, and no field.
 #[derive(Drop)]
 pub struct Session {
     pub side: Side,

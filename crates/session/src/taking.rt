@@ -17,6 +17,8 @@ use seal::MessageKey;
 use wire::read;
 
 // Takes a message that was read: in turn, by a key that was put aside, or on a new link.
+// The switch of the bookkeeping once more, since the text is opened before its step; and the three have no frame in common,
+// since each works out its key and puts keys aside in a way of its own.
 fn take_read<B: KeyBox>(
     session: Session,
     slots: &mut [MessageKey; 512],
@@ -82,6 +84,7 @@ pub fn take<B: KeyBox>(
     ensures answer { Answers B.KeyBox.keys B.KeyBox.scheme (λ o key fresh h. take_bytes o key fresh h message.now) session slots.old slots.new out.new own.old own.new result }
     ensures output { Outputs out.old out.new result }
 {
+    // a match: `?` doesn't serve `Taken`
     let header = match read(message) {
         Ok(header) => header,
         Err(why) => return Taken::Refused(session, why),

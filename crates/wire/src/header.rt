@@ -8,7 +8,7 @@ pub const HEADER_SIZE: usize = 47;
 // What every message begins with.
 pub const FIRST_BYTE: u8 = 82;
 
-#[derive(Clone, Copy)]
+#[derive(Clone, Copy, Debug, PartialEq, Eq)]
 pub struct Header {
     // which message it is, and how many its sender sent on its link before
     pub message: Message,

@@ -1,6 +1,6 @@
 -- Adding to sets of marks.
 use Rattle.std.proofs.Common.{◌≡◌, ℕ, ◌+◌, ◌<◌, ◌≤◌, Bool, true, false, Ordering, Less, Equal, Greater, ◌&&◌, ◌||◌, eqb, arith, List, [], ◌∷◌, ◌++◌, map, length, get_or, take, sym, refl, ap, ◌∙◌, subst}
-use Rattle.std.proofs.lemmas.List.{take_more, take_all}
+use Rattle.std.proofs.lemmas.List.{take_more}
 use Rattle.std.proofs.lemmas.Bool.{eqb-true, and_parts}
 use Rattle.std.specs.List.{list_any}
 use Rattle.std.specs.Ordering.{is_eq, match_ordering, ordering_then, nat_cmp}
@@ -94,9 +94,6 @@ adds_more xs ms ys zs i d h old new m =
     let c = ap (has m) (take_more ms i d h) in
     let e = has-append m (take i ms) (get_or ms i d ∷ []) in
     let f = or_assoc (has m xs) (has m (take i ms)) (has m (get_or ms i d ∷ [])) in cc
-
-pub adds_all : (xs ms ys : List Mark) (i : ℕ) → length ms ≤ i → Adds xs (take i ms) ys → Adds xs ms ys
-adds_all xs ms ys i h old m = old m ∙ ap (λ (l : List Mark). has m xs || has m l) (take_all i ms h)
 
 -- ### The marks of all sides
 

@@ -1,4 +1,4 @@
-// Work on lent memory that more than one crate does.
+// Work on bytes that more than one crate does: parts of lent memory, comparing, overwriting, counting up.
 #![tactic(auto)]
 
 mod comparing;

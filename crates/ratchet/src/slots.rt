@@ -7,7 +7,7 @@ ghost use Rattle.ratchet.specs.State.{places};
 
 use crate::types::Mark;
 
-// Writes the marks of a link's places `from` to `upto` - 1 into the slots from `at` on.
+// Writes the marks of a link's places `from` to `upto` - 1 into the slots from `at` on; a run is named by its link and ends, as in the rules.
 pub(crate) fn put(slots: &mut [Mark], at: usize, link: u32, from: u32, upto: u32)
     requires ordered { from ≤ upto }
     requires within { at + (upto - from) ≤ length slots.old }

@@ -190,7 +190,8 @@ fn take_new(side: Side, message: Message, opens: bool) -> Taken
     })
 }
 
-// Takes a message; `opens` says whether its text opens with its key: what a test answers, and no kind of message.
+// Takes a message, by where it has its place, in the order of the rules: in turn, put aside, on a new link.
+// `opens` says whether its text opens with its key: what a test answers, and no kind of message.
 pub fn take(side: Side, message: Message, opens: bool) -> Taken
     ensures answer { taken_answer result ≡ taking opens (state_of side) message }
     ensures values { TakenBy side result }

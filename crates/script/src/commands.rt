@@ -112,7 +112,7 @@ fn deliver_line(line: &[u8]) -> Option<Command>
     flip_part(number, rest)
 }
 
-// Reads a line of a script; none where it is no command. The kinds are tried one behind the other, and the first that fits is it.
+// Reads a line of a script; none where it is no command, and no `TryFrom`, since why it is none is not told. The kinds are tried one behind the other, and the first that fits is it.
 pub fn parse(line: &[u8]) -> Option<Command>
     ensures { result ≡ parsed line.now }
 {

@@ -1,4 +1,4 @@
-// What a rehearsal prints, line by line.
+// What a rehearsal prints, line by line; each contract names the bytes that then stand behind those that were there, where there was memory.
 ghost use Rattle.std.specs.Prelude.{◌≡◌, ◌++◌, OnOk};
 ghost use Rattle.ratchet.specs.State.{state_of};
 ghost use Rattle.script.specs.Output.{opened_line, read_line, sending_line, taking_line, text_part, link_text, marks_text, links_text, side_line};

@@ -1,4 +1,4 @@
-// The parts of a page, by where they stand.
+// The parts of a page, by where they stand. What reads at a place has a `requires`: that a page is long enough is tested before.
 ghost use Rattle.std.specs.Prelude.{◌≡◌, ◌+◌, ◌-◌, ◌*◌, ◌<◌, ◌≤◌, ◌++◌, length, drop, replicate};
 ghost use Rattle.ratchet.specs.Blank.{blank as noMark};
 ghost use Rattle.ratchet.specs.State.{state_of};

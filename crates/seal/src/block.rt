@@ -11,6 +11,7 @@ use octets::{part_at, put, wipe};
 const EXPAND: [u32; 4] = [0x61707865, 0x3320646e, 0x79622d32, 0x6b206574];
 
 // The word at a place of some bytes, its low byte first. Who reads words says in which order of bytes, so each crate has such a line.
+// It has a `requires`, since the places are those of a key's or a nonce's words.
 fn load(bytes: &[u8], at: usize) -> u32
     requires { at + 4 ≤ length bytes.now }
     ensures { result ≡ word bytes.now at }

@@ -1,4 +1,4 @@
-// Sealing a text behind a header, and opening it again.
+// Sealing a text behind a header, and opening it again. Key, header, text and output are apart, since each is lent by itself.
 ghost use Rattle.std.specs.Prelude.{◌≡◌, length};
 ghost use Rattle.seal.specs.Answers.{SealAnswer, OpenAnswer, UndoesSealing};
 ghost use Rattle.seal.specs.Sealing.{covered, ExactlySealed};

@@ -78,6 +78,7 @@ fn chain_starts(heap: Global, readings: &[Side], count: usize) -> Result<Vec<Opt
 }
 
 // The sides that were read, from which place on the chain of each link is known, and which keys were held themselves.
+// Its frame is that of `Rule`, and its facts are others: a type for both would be made of two anyway.
 #[derive(Drop)]
 pub struct Workings<'a> {
     pub readings: &'a [Side],

@@ -1,7 +1,5 @@
 // Texts sealed and opened, and what is no sealed text refused.
 // Key, header and body are apart, since a forgery changes one of them and leaves the others.
-ghost use Rattle.std.specs.Prelude.{◌≤◌};
-
 use octets::count_up;
 use seal::{MessageKey, OpenError, SealError, open, seal};
 use std::io;
@@ -113,16 +111,13 @@ fn round_trip(
     Ok(Some(end))
 }
 
-fn case<const N: usize>(rt: &HostRuntime, n: u8) -> io::Result<()>
-    requires { N ≤ 1000 }
-{
-    let text: [u8; N] = count_up(n.wrapping_mul(5), 11);
+fn case(rt: &HostRuntime, text: &[u8], n: u8) -> io::Result<()> {
     let mut header: [u8; 47] = count_up(n.wrapping_mul(29), 3);
     let key = MessageKey(count_up(n.wrapping_mul(17), 7));
     let other = MessageKey(count_up(n.wrapping_mul(17), 9));
     let mut out = [170; 1024];
-    let sealed = round_trip(rt, &key, &header, &text, &mut out, &mut [170; 1024])?;
-    refuse_seal(rt, &key, &header, &text, &mut [170; 1024])?;
+    let sealed = round_trip(rt, &key, &header, text, &mut out, &mut [170; 1024])?;
+    refuse_seal(rt, &key, &header, text, &mut [170; 1024])?;
     match sealed {
         Some(end) if end <= 1024 => forgeries(rt, &key, &mut header, &mut out[0..end], &other),
         _ => println!(rt; "another size"),
@@ -130,10 +125,10 @@ fn case<const N: usize>(rt: &HostRuntime, n: u8) -> io::Result<()>
 }
 
 pub fn run(rt: &HostRuntime) -> io::Result<()> {
-    case::<0>(rt, 0)?;
-    case::<1>(rt, 1)?;
-    case::<63>(rt, 2)?;
-    case::<64>(rt, 3)?;
-    case::<65>(rt, 4)?;
-    case::<1000>(rt, 5)
+    case(rt, &count_up::<0>(0, 11), 0)?;
+    case(rt, &count_up::<1>(5, 11), 1)?;
+    case(rt, &count_up::<63>(10, 11), 2)?;
+    case(rt, &count_up::<64>(15, 11), 3)?;
+    case(rt, &count_up::<65>(20, 11), 4)?;
+    case(rt, &count_up::<1000>(25, 11), 5)
 }

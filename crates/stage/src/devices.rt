@@ -60,7 +60,7 @@ impl Device {
         Ok(Ok(()))
     }
 
-    // Sends a text of so many bytes; the plan may have the side stop before its write, or after it.
+    // Sends a text of so many bytes; the plan may have the side stop before its write, or after it: an if for each, since between the two something is noted.
     pub fn send(&mut self, text_length: usize) -> Result<Sending, Fault>
         ensures { IfOk result (SendDone text_length self.old self.new) }
     {

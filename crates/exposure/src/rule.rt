@@ -33,7 +33,7 @@ fn seen(readings: &[Side], mark: Mark) -> bool
     readings.iter().any(|side| sees(side, mark))
 }
 
-// Which links lie open, upward: a table by link, since each has an entry.
+// Which links lie open, upward: a table by link, since each has an entry, and a count, since each entry comes from the one below it.
 // Not one function with `chain_starts`: that one goes by what was held, and the two words of a row are to be come to apart.
 fn links_open(heap: Global, readings: &[Side], count: usize) -> Result<Vec<bool>, Fault>
     ensures { IfOk result (λ v. v.items ≡ links_to (map state_of readings.now) count) }

@@ -28,6 +28,7 @@ pub fn position(marks: &[Mark], mark: Mark) -> Option<usize>
 }
 
 // Takes what stands at `i` out: those behind it move down, and the last slot is blank.
+// It has a `requires`: the number is one that a search of the same slots found.
 pub fn take_out<T: Drop>(slots: &mut [T], i: usize, blank: T)
     requires { i < length slots.old }
     ensures { slots.new ≡ remove slots.old i ++ blank ∷ [] }

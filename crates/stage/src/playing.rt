@@ -133,7 +133,7 @@ impl Player {
         self.device_mut(other(from)).take(message, whole)
     }
 
-    // Message `number`, and who sent it, if it can be delivered with this bit turned, if one is named.
+    // Message `number`, and who sent it, if it can be delivered with this bit turned, if one is named; the two are what a line of a script names.
     fn deliverable(&self, number: usize, flip: Option<usize>) -> Result<(Who, Message), NoDelivery>
         ensures { Deliverable number flip self.now result }
     {

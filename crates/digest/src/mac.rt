@@ -10,7 +10,7 @@ use crate::streaming::{Hasher, sha256};
 const PADS: [u8; 2] = [0x36, 0x5c];
 
 // The inner hash, of its pad and the message so far, and the outer one, of its pad.
-// A contract says of each by itself that it is fresh: a word for both would be no shorter.
+// Each hash is said to be fresh in a clause of its own: a word for both would be one definition more to read.
 #[derive(Clone, Copy)]
 pub struct Mac {
     inner: Hasher,

@@ -63,7 +63,7 @@ pub fn play_all(
     ensures ended { IfOk result (Ended view script.now player.old out.old.items player.new out.new.items) }
     ensures lawful { OnOk result (Lawful (world_of player.old) (world_of player.new)) }
 {
-    // counted here and not by `enumerate`: the number stays at its greatest, as the definition has it
+    // counted here: the definition's number stays at its greatest, and by `enumerate` it would have to be shown that no script has so many lines
     let mut number = 1usize;
     for line in script.split_inclusive(|b| *b == b'\n') {
         if let Err(why) = turn(player, view, number, without_newline(line), out)? {

@@ -15,7 +15,7 @@ pub struct Stop {
     pub when: When,
 }
 
-// What a side's send comes to in a rehearsal; none of the four is an error, and each has a line of its own in the output.
+// What a side's send comes to in a rehearsal; all four are what a rehearsal shows and plays on from, a refusal too.
 #[derive(Clone, Copy, Debug, PartialEq, Eq)]
 pub enum Sending {
     // it left
@@ -27,7 +27,7 @@ pub enum Sending {
     Refused(Refusal),
 }
 
-// What taking a message comes to in a rehearsal; none of the four is an error, and each has a line of its own in the output.
+// What taking a message comes to in a rehearsal; all four are what a rehearsal shows and plays on from, a refusal too.
 #[derive(Clone, Copy, Debug, PartialEq, Eq)]
 pub enum Taking {
     // the text was handed out

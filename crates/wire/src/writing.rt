@@ -7,7 +7,7 @@ use octets::put;
 use ratchet::types::{Mark, Message};
 
 // The bytes before the sealed text, of a fixed number, as asked for.
-// A function and no From: these bytes alone are no message that `read` reads back.
+// By name and no From: these bytes are only the front of a message.
 pub fn write_header(header: &Header) -> [u8; 47]
     ensures bytes { result ≡ header_bytes header.now }
     ensures back { (behind : List ℕ) → length behind ≡ header.now.length + 16 → header.now.length ≤ 1000 → reading (result ++ behind) ≡ Ok header.now }

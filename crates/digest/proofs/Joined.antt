@@ -1,7 +1,7 @@
 -- The blocks of an expansion, written one behind the other.
 use Rattle.std.proofs.Common.{◌≡◌, ℕ, suc, ◌+◌, ◌-◌, ◌*◌, ◌/◌, ◌<◌, ◌≤◌, min, List, [], ◌∷◌, ◌++◌, length, take, drop, sym, refl, ap, ◌∙◌, add-one, arith, length-append, take-append-drop}
 use native.Mathlib.Decide.{dec_lt}
-use Rattle.std.proofs.lemmas.List.{append_assoc, append-nil, drop_all, length-take-le, take_all, take_at}
+use Rattle.std.proofs.lemmas.List.{append_assoc, append-nil, drop_all, length-take-le, take_all, take_at, nil_from_length}
 use Rattle.digest.specs.Hkdf.{hkdf_t, expanded, joined}
 use Rattle.digest.specs.Hmac.{hmac_sha_256}
 use Rattle.digest.proofs.Lengths.{joined-more, joined-none, length-hkdf_t, length-joined}
@@ -13,6 +13,11 @@ hkdf_t-suc k info i = refl
 pub hkdf_t-none : (k info : List ℕ) → hkdf_t k info 0 ≡ []
 unfolding hkdf_t
 hkdf_t-none k info = refl
+
+-- nothing is nothing expanded
+pub expanded-none : (k info out : List ℕ) → length out ≡ 0 → out ≡ expanded k info (length out)
+unfolding expanded
+expanded-none k info out h = nil_from_length out h ∙ sym (ap (λ (n : ℕ). take n (joined k info ((length out + 31) / 32))) h)
 
 -- the block behind i of them, from the bytes that the code hands over
 pub hkdf_t-more : (k info before r : List ℕ) (i n : ℕ) → before ≡ hkdf_t k info i → n ≡ i + 1 → r ≡ hmac_sha_256 k (before ++ info ++ n ∷ []) → r ≡ hkdf_t k info (i + 1)

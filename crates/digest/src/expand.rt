@@ -25,7 +25,7 @@ fn next_block(start: &Mac, before: &[u8], info: &[u8], number: u8) -> [u8; 32]
 
 // Fills out with the expansion of a key.
 fn expand_key(key: &[u8], info: &[u8], out: &mut [u8])
-    requires { length out.old ≤ most }
+    requires { (length out.old ≤ most) × (0 < length out.old) }
     ensures { out.new ≡ expanded key.now info.now (length out.old) }
 {
     let mut start = Mac::blank();
@@ -54,6 +54,9 @@ pub fn hkdf(salt: &[u8], input: &[u8], info: &[u8], out: &mut [u8]) -> Result<()
 {
     if out.len() > MOST {
         return Err(TooLong);
+    }
+    if out.is_empty() {
+        return Ok(());
     }
     let mut key = hmac(salt, input);
     expand_key(&key, info, out);

@@ -1,9 +1,6 @@
 use Rattle.std.proofs.Common.{◌≡◌, ◌+◌, ◌*◌, min, length, ◌∙◌, arith}
-use Rattle.seal.proofs.Streams.{stream_nothing, under-way_none, under_way_more, under-way_all}
+use Rattle.seal.proofs.Streams.{under-way_none, under_way_more, under-way_all}
 use Rattle.seal.proofs.cipher.apply.Goals as goal
-
-pub returns-then-size-eq0 : goal.returns-then-size-eq0
-returns-then-size-eq0 c = stream_nothing c.args.key.now.0 c.args.nonce.now.0 c.args.counter c.args.text.now (omega arith)
 
 pub loop-i-init : goal.loop-i-init
 loop-i-init c =

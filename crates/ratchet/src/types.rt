@@ -73,7 +73,7 @@ impl fmt::Display for Refusal {
 }
 
 // What a call answers that keeps nothing: the side as it was, and why.
-#[derive(Drop)]
+#[derive(Clone, Copy, Drop)]
 pub struct Refused<S> {
     pub side: S,
     pub why: Refusal,

@@ -1,5 +1,5 @@
 // Rows: what is printed of each message.
-ghost use Rattle.std.specs.Prelude.{◌≡◌, ℕ, ◌<◌, ◌++◌, map, length, OnOk, slice_index_or};
+ghost use Rattle.std.specs.Prelude.{◌≡◌, ℕ, ◌<◌, ◌++◌, map, length, OnOk, OnErr, slice_index_or};
 ghost use Rattle.ratchet.specs.Blank.{blank};
 ghost use Rattle.ratchet.specs.State.{state_of};
 ghost use Rattle.exposure.specs.Rows.{row_of, rows_of, Agree};
@@ -7,11 +7,11 @@ ghost use Rattle.exposure.specs.Rows.{row_of, rows_of, Agree};
 use crate::rule::Rule;
 use crate::working::Workings;
 use notation::faults::Fault;
+use notation::text::put;
 use ratchet::sides::Side;
 use ratchet::types::Mark;
-use std::io::Write;
 
-// Appends `M L/P open known`, each word by the answer of its function, and so by a bool.
+// Appends `M L/P open known`, each word by the answer of its function, and so by a bool; the whole row or nothing of it.
 pub fn put_row(
     out: &mut Vec<u8>,
     number: usize,
@@ -19,12 +19,13 @@ pub fn put_row(
     open: bool,
     known: bool,
 ) -> Result<(), Fault>
-    ensures { OnOk result (out.new.items ≡ out.old.items ++ row_of number mark «open» known) }
+    ensures row { OnOk result (out.new.items ≡ out.old.items ++ row_of number mark «open» known) }
+    ensures whole { OnErr result (out.new.items ≡ out.old.items) }
 {
     let first = if open { "open" } else { "shut" };
     let second = if known { "known" } else { "unknown" };
-    writeln!(out, "{number} {mark} {first} {second}")?;
-    Ok(())
+    let row = format!(in *out.allocator(); "{number} {mark} {first} {second}\n")?;
+    put(out, &row)
 }
 
 // A number above every link of some messages.

@@ -1,11 +1,10 @@
 // Texts as scripts and output write them: a byte that can't be seen is \xNN.
-ghost use Rattle.std.specs.Prelude.{◌≡◌, ◌<◌, ◌++◌, IfOk, vec_items, OnOk};
+ghost use Rattle.std.specs.Prelude.{◌≡◌, ◌<◌, ◌++◌, IfOk, vec_items, OnOk, OnErr};
 ghost use Rattle.std.specs.Option.{option_map, option_to_list};
-ghost use Rattle.notation.specs.Escapes.{escaped, hidden, escaped_byte, hex_value, after, emitted, unescaped};
+ghost use Rattle.notation.specs.Escapes.{escaped, hidden, escaped_byte, hex_digit, hex_value, after, emitted, unescaped};
 
 use crate::faults::Fault;
 use std::alloc::Global;
-use std::io::Write;
 
 // Where the reading of an escape stands; `Bad` is a state too, since in the definition a bad escape is read on to the end.
 #[derive(Clone, Copy, Debug, PartialEq, Eq)]
@@ -22,6 +21,14 @@ pub enum Escape {
     Bad,
 }
 
+// The digit for a number below 16.
+fn hex_digit(n: u8) -> u8
+    requires { n < 16 }
+    ensures { result ≡ hex_digit n }
+{
+    if n < 10 { b'0' + n } else { b'a' + (n - 10) }
+}
+
 // The value of a hexadecimal digit.
 fn hex_value(b: u8) -> Option<u8>
     ensures { result ≡ hex_value b }
@@ -36,12 +43,21 @@ fn is_hidden(b: u8) -> bool
     b.is_ascii_control() || b == b'\\'
 }
 
-// One byte of a text, as output writes it.
+// Appends a part of what is written, whole or not at all: where memory is wanted, no line ends in its midst.
+pub fn put(out: &mut Vec<u8>, part: &str) -> Result<(), Fault>
+    ensures done { OnOk result (out.new.items ≡ out.old.items ++ part.now) }
+    ensures whole { OnErr result (out.new.items ≡ out.old.items) }
+{
+    out.extend_from_slice(part.as_bytes())?;
+    Ok(())
+}
+
+// One byte of a text, as output writes it; an escape by hand, since `write!` takes it through a formatter, digit by digit.
 fn put_byte(out: &mut Vec<u8>, b: u8) -> Result<(), Fault>
     ensures { OnOk result (out.new.items ≡ out.old.items ++ escaped_byte b) }
 {
     if is_hidden(b) {
-        write!(out, "\\x{b:02x}")?;
+        out.extend_from_slice(&[b'\\', b'x', hex_digit(b / 16), hex_digit(b % 16)])?;
     } else {
         out.push(b)?;
     }

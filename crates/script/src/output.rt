@@ -1,33 +1,38 @@
 // What a rehearsal prints, line by line; each contract names the bytes that then stand behind those that were there, where there was memory.
-ghost use Rattle.std.specs.Prelude.{◌≡◌, ◌++◌, OnOk};
+// A line of one piece, and a mark, is made first, in memory of its own, and then put whole or not at all: where memory is wanted, nothing ends in its midst.
+ghost use Rattle.std.specs.Prelude.{◌≡◌, ◌++◌, OnOk, OnErr};
 ghost use Rattle.ratchet.specs.State.{state_of};
-ghost use Rattle.script.specs.Output.{opened_line, read_line, sending_line, taking_line, text_part, link_text, marks_text, links_text, side_line};
+ghost use Rattle.script.specs.Output.{marked_line, opened_line, read_line, sending_line, taking_line, text_part, link_text, spaced_mark, marks_text, links_text, side_line};
 
 use notation::faults::Fault;
-use notation::text::put_text;
+use notation::text::{put, put_text};
 use ratchet::sides::Side;
 use ratchet::types::Mark;
 use runs::types::Who;
 use stage::types::{Sending, Taking};
 use std::io::Write;
 
+// `M L/P WORD`
+fn put_marked(out: &mut Vec<u8>, number: usize, mark: Mark, word: &str) -> Result<(), Fault>
+    ensures line { OnOk result (out.new.items ≡ out.old.items ++ marked_line number mark word.now) }
+    ensures whole { OnErr result (out.new.items ≡ out.old.items) }
+{
+    let line = format!(in *out.allocator(); "{number} {mark} {word}\n")?;
+    put(out, &line)
+}
+
 // What a send came to; `number` is the message's, if there is one. An arm for each line, though two differ in a word alone.
 pub fn put_sending(out: &mut Vec<u8>, number: usize, outcome: Sending) -> Result<(), Fault>
-    ensures { OnOk result (out.new.items ≡ out.old.items ++ sending_line number outcome) }
+    ensures line { OnOk result (out.new.items ≡ out.old.items ++ sending_line number outcome) }
+    ensures whole { OnErr result (out.new.items ≡ out.old.items) }
 {
+    let heap = *out.allocator();
     match outcome {
-        Sending::Sent(message) => {
-            let mark = message.mark;
-            writeln!(out, "{number} {mark} sent")?
-        }
-        Sending::Lost(message) => {
-            let mark = message.mark;
-            writeln!(out, "{number} {mark} lost")?
-        }
-        Sending::Stopped => writeln!(out, "stopped")?,
-        Sending::Refused(why) => writeln!(out, "refused {why}")?,
+        Sending::Sent(message) => put_marked(out, number, message.mark, "sent"),
+        Sending::Lost(message) => put_marked(out, number, message.mark, "lost"),
+        Sending::Stopped => put(out, "stopped\n"),
+        Sending::Refused(why) => put(out, &format!(in heap; "refused {why}\n")?),
     }
-    Ok(())
 }
 
 // A text behind a space, if it has any bytes.
@@ -60,21 +65,21 @@ pub fn put_taking(
 ) -> Result<(), Fault>
     ensures { OnOk result (out.new.items ≡ out.old.items ++ taking_line number text.now outcome) }
 {
+    let heap = *out.allocator();
     match outcome {
-        Taking::Opened => put_opened(out, number, text)?,
-        Taking::Lost => writeln!(out, "{number} lost")?,
-        Taking::Stopped => writeln!(out, "stopped")?,
-        Taking::Refused(why) => writeln!(out, "{number} refused {why}")?,
+        Taking::Opened => put_opened(out, number, text),
+        Taking::Lost => put(out, &format!(in heap; "{number} lost\n")?),
+        Taking::Stopped => put(out, "stopped\n"),
+        Taking::Refused(why) => put(out, &format!(in heap; "{number} refused {why}\n")?),
     }
-    Ok(())
 }
 
 // `S read`
 pub fn put_read(out: &mut Vec<u8>, who: Who) -> Result<(), Fault>
-    ensures { OnOk result (out.new.items ≡ out.old.items ++ read_line who) }
+    ensures line { OnOk result (out.new.items ≡ out.old.items ++ read_line who) }
+    ensures whole { OnErr result (out.new.items ≡ out.old.items) }
 {
-    writeln!(out, "{who} read")?;
-    Ok(())
+    put(out, &format!(in *out.allocator(); "{who} read\n")?)
 }
 
 // A link and a place on it, or `-` where there is no such link: the side has drawn fewer than `least` keys.
@@ -84,11 +89,17 @@ fn put_link(out: &mut Vec<u8>, drawn: u32, least: u32, place: u32) -> Result<(),
     match drawn.checked_sub(least) {
         Some(link) => {
             let mark = Mark { link, place };
-            write!(out, "{mark}")?
+            put(out, &format!(in *out.allocator(); "{mark}")?)
         }
-        None => write!(out, "-")?,
+        None => put(out, "-"),
     }
-    Ok(())
+}
+
+// A mark behind a space.
+fn put_spaced(out: &mut Vec<u8>, mark: Mark) -> Result<(), Fault>
+    ensures { OnOk result (out.new.items ≡ out.old.items ++ spaced_mark mark) }
+{
+    put(out, &format!(in *out.allocator(); " {mark}")?)
 }
 
 // The marks of the keys put aside, each behind a space; `-` where there are none. A loop, since any of them may find no memory.
@@ -96,11 +107,10 @@ fn put_marks(out: &mut Vec<u8>, marks: &[Mark]) -> Result<(), Fault>
     ensures { OnOk result (out.new.items ≡ out.old.items ++ marks_text marks.now) }
 {
     if marks.is_empty() {
-        write!(out, " -")?;
-        return Ok(());
+        return put(out, " -");
     }
     for mark in marks {
-        write!(out, " {mark}")?;
+        put_spaced(out, *mark)?;
     }
     Ok(())
 }

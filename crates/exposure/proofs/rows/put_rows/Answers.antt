@@ -28,7 +28,7 @@ loop-i-preserved c =
     let lies_open = c.exposed-open.ensures ∙ ap (λ (l : List Side). exposed (map state_of l) m.link m.place) c.in_ok-rule.ensures.0 in
     let known = c.known-known.ensures.value ∙ ap (λ (l : List Side). works_out (stocks (map state_of l)) (key_of m)) c.in_ok-workings.ensures.0 in
     row_put (map state_of c.args.readings.now) (vec_items c.args.out.now) (vec_items c.loop-i.out) (vec_items c.put_row.new.out) c.args.marks.now
-    c.loop-i.i c.loop-i.i blank _ _ c.loop-i-test.true c.loop-i.invariant refl lies_open known c.in_ok-put_row.ensures
+    c.loop-i.i c.loop-i.i blank _ _ c.loop-i-test.true c.loop-i.invariant refl lies_open known c.in_ok-put_row.ensures.row
 
 pub returns-clause-agree : goal.returns-clause-agree
 returns-clause-agree c = agree (map state_of c.args.readings.now)

@@ -1,10 +1,11 @@
 -- Adding to sets of marks.
-use Rattle.std.proofs.Common.{◌≡◌, ℕ, ◌+◌, ◌<◌, ◌≤◌, Bool, true, false, Ordering, Less, Equal, Greater, ◌&&◌, ◌||◌, eqb, arith, List, [], ◌∷◌, ◌++◌, map, length, get_or, take, sym, refl, ap, ◌∙◌, subst}
+use Rattle.std.proofs.Common.{◌≡◌, ℕ, ◌+◌, ◌<◌, ◌≤◌, Bool, true, false, Ordering, Less, Equal, Greater, ◌&&◌, ◌||◌, eqb, arith, List, [], ◌∷◌, ◌++◌, map, length, get_or, take, sym, refl, ap, ◌∙◌, subst, inl, inr}
 use Rattle.std.proofs.lemmas.List.{take_more}
-use Rattle.std.proofs.lemmas.Bool.{eqb-true, and_parts}
+use Rattle.std.proofs.lemmas.Bool.{eqb-true, eq-eqb, and_parts, cases_Bool, or_left}
 use Rattle.std.specs.List.{list_any}
 use Rattle.std.specs.Ordering.{is_eq, match_ordering, ordering_then, nat_cmp}
 use Rattle.std.proofs.lemmas.Grind.{common_steps}
+use Rattle.std.specs.Bool.{Decides}
 use Rattle.std.specs.BTreeMap.{is_at}
 use Rattle.std.specs.BTreeSet.{insert_key}
 use Rattle.ratchet.specs.declared.types.Mark.{Mark}
@@ -36,6 +37,12 @@ same-is : (x m : Mark) → same_mark x m ≡ true → x ≡ m
 same-is x m h =
     let p = and_parts (eqb x.link m.link) (eqb x.place m.place) h in
     λ i. record { link = eqb-true x.link m.link p.0 i; place = eqb-true x.place m.place p.1 i }
+
+pub same-decides : (x m : Mark) → Decides (same_mark x m) (x ≡ m)
+same-decides x m = (
+  same-is x m,
+  λ e. let l = eq-eqb x.link m.link (ap (λ (y : Mark). y.link) e) in let p = eq-eqb x.place m.place (ap (λ (y : Mark). y.place) e) in cc,
+)
 
 or_again : (a b : Bool) → ((a || b) || (a || false)) ≡ (a || b)
 or_again true b = refl
@@ -79,6 +86,12 @@ module _ (cmp : Mark → Mark → Ordering) (apart : (k x : Mark) → is_eq (cmp
           ap (λ b. same_mark x m || b) h
           ∙ (sym (or_assoc (same_mark x m) (has m xs) (has m (k ∷ []))) ∙ ap (λ b. (same_mark x m || has m xs) || b) (has_one m k ∙ sym (or_false (same_mark k m))))
 
+  pub adds_there : (xs : List Mark) (x : Mark) → list_any (is_at (cmp x)) xs ≡ true → Adds xs (x ∷ []) xs
+  adds_there xs x h m = elim (cases_Bool (same_mark x m)) [
+    | inl t ↦ let e : has m xs ≡ true = subst (λ (y : Mark). has y xs ≡ true) (same-is x m t) (sym (has-contains x xs) ∙ h) in e ∙ sym (or_left (has m xs) (has m (x ∷ [])) e)
+    | inr f ↦ sym (ap (λ b. has m xs || b) (has_one m x ∙ f) ∙ or_false (has m xs))
+  ]
+
   pub adds_inserted : (xs ys : List Mark) (x : Mark) → ys ≡ insert_key cmp xs x → Adds xs (x ∷ []) ys
   adds_inserted xs ys x e m = ap (has m) e ∙ has-insert m x xs
 
@@ -104,6 +117,24 @@ pub aside-more : (rs : List Side) (xs ys : List Mark) (k : ℕ) (x : Side) → x
     (ms : List Mark) → ms ≡ (state_of x).skipped → Adds xs ms ys → Aside (map state_of (take (k + 1) rs)) ys
 aside-more rs xs ys k x is h old ms e new m =
     new m ∙ (ap (λ (l : List Mark). has m xs || has m l) e ∙ (ap (λ b. b || has m (state_of x).skipped) (old m) ∙ sym (any_more (λ s. has m s.skipped) rs k x is h)))
+
+-- a side whose marks are those of the one before it, which are in the set, adds nothing
+pub adds_again : (xs ms last : List Mark) → ms ≡ last → ((m : Mark) → has m last ≡ true → has m xs ≡ true) → Adds xs ms xs
+adds_again xs ms last same there m = elim (cases_Bool (has m ms)) [
+  | inl t ↦ let e : has m xs ≡ true = there m (ap (has m) (sym same) ∙ t) in e ∙ sym (or_left (has m xs) (has m ms) e)
+  | inr f ↦ sym (ap (λ b. has m xs || b) f ∙ or_false (has m xs))
+]
+
+pub none_there : (xs : List Mark) (m : Mark) → has m [] ≡ true → has m xs ≡ true
+none_there xs m h = let e = has-nil m in cc
+
+-- what was added is in the set
+pub there_now : (xs ms ys : List Mark) → Adds xs ms ys → (m : Mark) → has m ms ≡ true → has m ys ≡ true
+there_now xs ms ys new m t = new m ∙ ap (λ b. has m xs || b) t ∙ or_comm (has m xs) true
+
+-- and what was in it still is
+pub still_there : (xs ms ys : List Mark) → Adds xs ms ys → (m : Mark) → has m xs ≡ true → has m ys ≡ true
+still_there xs ms ys new m t = new m ∙ or_left (has m xs) (has m ms) t
 
 pub aside-all : (rs : List Side) (xs : List Mark) (k : ℕ) → length rs ≤ k → Aside (map state_of (take k rs)) xs → Aside (map state_of rs) xs
 aside-all rs xs k h old m = old m ∙ any_all (λ s. has m s.skipped) rs k h

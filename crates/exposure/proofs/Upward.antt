@@ -64,7 +64,7 @@ module _ (rs : List State) where
   table_length xs n k e l = l ∙ (ap length e ∙ length_links n)
 
   -- a side was read that opens a key by its chain, or one that had it put aside
-  seen_by : (m : Mark) → any_read (sees m.link m.place) rs ≡ (any_read (reaches m.link m.place) rs || any_read (λ s. has m s.skipped) rs)
+  pub seen_by : (m : Mark) → any_read (sees m.link m.place) rs ≡ (any_read (reaches m.link m.place) rs || any_read (λ s. has m s.skipped) rs)
   seen_by m = sym (any_or (reaches m.link m.place) (λ s. has m s.skipped) rs ∙ any_same _ _ (λ s. or_assoc (eqb s.drawn (suc m.link) && leb s.sent m.place) _ _) rs)
 
   pub seen_from : (m : Mark) (chain aside r : Bool) → chain ≡ any_read (reaches m.link m.place) rs → aside ≡ any_read (λ s. has m s.skipped) rs → r ≡ key_by chain aside →

@@ -1,7 +1,7 @@
 // What is asked of the sides that were read out, by the rule and by working out alike.
 // The contracts here and in the rule speak of `map state_of readings.now` each time: it is what the laws of a run are about.
-ghost use Rattle.std.specs.Prelude.{◌≡◌, map, IfOk, OnOk};
-ghost use Rattle.ratchet.specs.State.{state_of};
+ghost use Rattle.std.specs.Prelude.{◌≡◌, true, [], ◌∷◌, map, IfOk, OnOk, Decides};
+ghost use Rattle.ratchet.specs.State.{state_of, has};
 ghost use Rattle.runs.specs.Rule.{read_at};
 ghost use Rattle.chain.specs.Secret.{own, root_of};
 ghost use Rattle.runs.specs.Stock.{stocks};
@@ -23,14 +23,52 @@ pub fn read_at(readings: &[Side], n: u64) -> bool
     readings.iter().any(|side| side.drawn as u64 == n)
 }
 
+// Adds a mark to a set; it is looked for first, since most are there already, and to put one in costs twice as much as to look.
+fn add(set: &mut BTreeSet<Mark>, mark: Mark) -> Result<(), Fault>
+    ensures { OnOk result (Adds set.old.keys (mark ∷ []) set.new.keys) }
+{
+    if set.contains(&mark) {
+        return Ok(());
+    }
+    set.insert(mark)?;
+    Ok(())
+}
+
 // Adds some marks to a set; one by one, since there may be no memory for any of them.
 fn add_all(set: &mut BTreeSet<Mark>, marks: &[Mark]) -> Result<(), Fault>
     ensures { OnOk result (Adds set.old.keys marks.now set.new.keys) }
 {
     for mark in marks {
-        set.insert(*mark)?;
+        add(set, *mark)?;
     }
     Ok(())
+}
+
+// Are some marks the same as others, in the same order.
+fn are_same(marks: &[Mark], others: &[Mark]) -> bool
+    ensures { Decides result (marks.now ≡ others.now) }
+{
+    marks == others
+}
+
+// Adds some marks to a set that holds those of the last two sides; mostly they are those of one of these again, and nothing is added.
+fn add_new(
+    set: &mut BTreeSet<Mark>,
+    marks: &[Mark],
+    last: &[Mark],
+    before: &[Mark],
+) -> Result<(), Fault>
+    requires last { (m : Mark) → has m last.now ≡ true → has m set.old.keys ≡ true }
+    requires before { (m : Mark) → has m before.now ≡ true → has m set.old.keys ≡ true }
+    ensures { OnOk result (Adds set.old.keys marks.now set.new.keys) }
+{
+    if are_same(marks, last) {
+        return Ok(());
+    }
+    if are_same(marks, before) {
+        return Ok(());
+    }
+    add_all(set, marks)
 }
 
 // The messages whose keys some side that was read had put aside, and so held itself.
@@ -39,8 +77,12 @@ pub fn put_aside(heap: Global, readings: &[Side]) -> Result<BTreeSet<Mark>, Faul
     ensures held { IfOk result (λ set. Held (map state_of readings.now) set.keys) }
 {
     let mut marks = BTreeSet::new(heap);
+    let mut last: &[Mark] = &[];
+    let mut before: &[Mark] = &[];
     for side in readings {
-        add_all(&mut marks, side.aside())?;
+        add_new(&mut marks, side.aside(), last, before)?;
+        before = last;
+        last = side.aside();
     }
     Ok(marks)
 }

@@ -76,13 +76,14 @@ pub fn program(rt: &HostRuntime, name: &str, view: View) -> ExitCode {
     let Err(failure) = run(rt, view) else {
         return ExitCode::SUCCESS;
     };
+    // where what became of a script can't be told, why it can't is told in its place
     let _ = match failure {
         Failure::Usage => eprintln!(rt;
             "usage: {name} [FILE]   (a script; standard input where no FILE is named)"
         ),
         Failure::Io(e) => eprintln!(rt; "{name}: {e}"),
-        Failure::Bad(bad) => eprintln!(rt; "{bad}"),
-        Failure::Fault(fault) => eprintln!(rt; "{fault}"),
+        Failure::Bad(bad) => eprintln!(rt; "{bad}").or_else(|e| eprintln!(rt; "{name}: {e}")),
+        Failure::Fault(fault) => eprintln!(rt; "{fault}").or_else(|e| eprintln!(rt; "{name}: {e}")),
     };
     ExitCode::FAILURE
 }

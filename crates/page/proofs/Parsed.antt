@@ -1,7 +1,6 @@
 -- The marks and keys in entries of 40 bytes, one more at a time.
-use Rattle.std.proofs.Common.{◌≡◌, ℕ, zero, suc, ◌+◌, ◌-◌, ◌*◌, ◌<◌, ◌≤◌, List, [], ◌∷◌, ◌++◌, length, get_or, take, drop, replicate, sym, refl, ap, ◌∙◌, inl, inr, add-one, arith}
-use Rattle.std.proofs.lemmas.Bool.{cases_lt}
-use Rattle.std.proofs.lemmas.List.{drop-drop, get_or_append_left, get_or-append_right, get_or-replicate}
+use Rattle.std.proofs.Common.{◌≡◌, ℕ, zero, suc, ◌+◌, ◌-◌, ◌*◌, ◌<◌, List, [], ◌∷◌, ◌++◌, length, take, drop, set, replicate, refl, ap, ◌∙◌, add-one, arith}
+use Rattle.std.proofs.lemmas.List.{append_assoc, drop-drop, set_at}
 use Rattle.ratchet.specs.Blank.{blank as noMark}
 use Rattle.ratchet.specs.declared.types.Mark.{Mark}
 use Rattle.page.specs.Parts.{mark_at, marks_in, keys_in}
@@ -14,6 +13,19 @@ mark-drop b i =
     let e : 40 + 40 * i ≡ 40 * suc i = omega arith in
     let f : 40 + (40 * i + 4) ≡ 40 * suc i + 4 = omega arith in
     cc
+
+marks-suc : (i : ℕ) (b : List ℕ) → marks_in (suc i) b ≡ marks_in i b ++ mark_at b (40 * i) ∷ []
+unfolding marks_in
+marks-suc zero b = refl
+marks-suc (suc i) b =
+    ap (λ (l : List Mark). mark_at b 0 ∷ l) (marks-suc i (drop 40 b)) ∙ ap (λ (m : Mark). mark_at b 0 ∷ (marks_in i (drop 40 b) ++ m ∷ [])) (mark-drop b i)
+
+pub marks-more : (i : ℕ) (b : List ℕ) → marks_in (i + 1) b ≡ marks_in i b ++ mark_at b (40 * i) ∷ []
+marks-more i b = ap (λ n. marks_in n b) (add-one i) ∙ marks-suc i b
+
+pub marks-none : (b : List ℕ) → marks_in 0 b ≡ []
+unfolding marks_in
+marks-none b = refl
 
 keys-suc : (i : ℕ) (b : List ℕ) → keys_in (suc i) b ≡ keys_in i b ++ take 32 (drop (40 * i + 8) b) ∷ []
 unfolding keys_in
@@ -41,18 +53,11 @@ unfolding keys_in
 length-keys zero b = refl
 length-keys (suc n) b = ap suc (length-keys n (drop 40 b))
 
-mark-got : (n i : ℕ) (b : List ℕ) (d : Mark) → i < n → get_or (marks_in n b) i d ≡ mark_at b (40 * i)
-unfolding marks_in
-mark-got zero i b d h = absurd (omega arith)
-mark-got (suc n) zero b d h = refl
-mark-got (suc n) (suc i) b d h = mark-got n i (drop 40 b) d (omega arith) ∙ mark-drop b i
-
--- the marks of some entries, and blanks behind them
-pub marks_slot : (b : List ℕ) (n most i : ℕ) (m d : Mark) → n ≤ most → i < most → (i < n → m ≡ mark_at b (40 * i)) → (n ≤ i → m ≡ noMark) → m ≡ get_or (marks_in n b ++ replicate (most - n) noMark) i d
-marks_slot b n most i m d few within taken left =
-    let long = length-marks n b in
-    elim (cases_lt i n) [
-      | inl h ↦ taken h ∙ sym (get_or_append_left (marks_in n b) (replicate (most - n) noMark) d i (omega arith) ∙ mark-got n i b d h)
-      | inr h ↦
-          left (omega arith) ∙ sym (get_or-append_right (marks_in n b) (replicate (most - n) noMark) n i d long (omega arith) ∙ get_or-replicate (most - n) (i - n) noMark d (omega arith))
-    ]
+-- one more mark, and blanks behind it
+pub marks_set : (marks : List Mark) (b : List ℕ) (i : ℕ) (m : Mark) → i < 512 → m ≡ mark_at b (40 * i) → marks ≡ marks_in i b ++ replicate (512 - i) noMark → set marks i m ≡ marks_in (i + 1) b ++ replicate (512 - (i + 1)) noMark
+marks_set marks b i m h is so_far =
+    let less : 512 - i ≡ suc (512 - (i + 1)) = omega arith in
+    let put = set_at (marks_in i b) noMark (replicate (512 - (i + 1)) noMark) m i (length-marks i b) in
+    let more = marks-more i b in
+    let tidy = append_assoc (marks_in i b) (m ∷ []) (replicate (512 - (i + 1)) noMark) in
+    cc

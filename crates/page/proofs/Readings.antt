@@ -26,12 +26,12 @@ SoundIn who h = Sound who h.state h.sending h.taking
 pub not-whole : (who : Who) (b : List ℕ) → (Whole b → ⊥) → Reads who b None
 not-whole who b never = λ h v e. never (subst Whole (sym e) (whole_read who h v))
 
-not_sound : (who : Who) (b : List ℕ) → (Sound who (state_in b) (take 32 (drop 81 b)) (take 32 (drop 113 b)) → ⊥) → Reads who b None
+pub not_sound : (who : Who) (b : List ℕ) → (Sound who (state_in b) (take 32 (drop 81 b)) (take 32 (drop 113 b)) → ⊥) → Reads who b None
 not_sound who b never = λ h v e.
     let same : held_in b ≡ h = ap held_in e ∙ held_read who h v in
     never (subst (SoundIn who) (sym same) v.sound)
 
-is_page : (who : Who) (b : List ℕ) (h : Held) → IsBytes b → Whole b → Sound who (state_in b) (take 32 (drop 81 b)) (take 32 (drop 113 b)) → held_in b ≡ h → Reads who b (Some h)
+pub is_page : (who : Who) (b : List ℕ) (h : Held) → IsBytes b → Whole b → Sound who (state_in b) (take 32 (drop 81 b)) (take 32 (drop 113 b)) → held_in b ≡ h → Reads who b (Some h)
 is_page who b h fit w sound same =
     (subst (Valid who) same (valid_back b fit w who sound), page_back b fit w ∙ ap page_bytes same)
 

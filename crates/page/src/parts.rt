@@ -1,5 +1,5 @@
 // The parts of a page, by where they stand. What reads at a place has a `requires`: that a page is long enough is tested before.
-ghost use Rattle.std.specs.Prelude.{◌≡◌, ◌+◌, ◌-◌, ◌*◌, ◌<◌, ◌≤◌, ◌++◌, length, drop, replicate};
+ghost use Rattle.std.specs.Prelude.{◌≡◌, ◌+◌, ◌-◌, ◌*◌, ◌≤◌, ◌++◌, length, drop, replicate};
 ghost use Rattle.ratchet.specs.Blank.{blank as noMark};
 ghost use Rattle.ratchet.specs.State.{state_of};
 ghost use Rattle.exchange.specs.Wire.{four_at};
@@ -12,7 +12,6 @@ use octets::part_at;
 use ratchet::sides::{BLANK, Side};
 use ratchet::types::Mark;
 use session::Session;
-use std::array;
 
 // The number in the four bytes from a place on. Who reads words says in which order of bytes, so each crate has such a line.
 fn four_at(bytes: &[u8], at: usize) -> u32
@@ -34,23 +33,16 @@ fn mark_at(bytes: &[u8], at: usize) -> Mark
 }
 
 impl Page<'_> {
-    // The mark of an entry, or a blank where there is none.
-    fn mark(&self, i: usize) -> Mark
-        ensures used { i < self.now.count → result ≡ mark_at (drop 147 self.now.bytes.now) (40 * i) }
-        ensures left { self.now.count ≤ i → result ≡ noMark }
-    {
-        if i < self.count {
-            mark_at(&self.bytes[FRONT..], ENTRY * i)
-        } else {
-            BLANK
-        }
-    }
-
     // The marks of the keys put aside, and blanks behind them.
     fn marks(&self) -> [Mark; 512]
         ensures { result ≡ marks_in self.now.count (drop 147 self.now.bytes.now) ++ replicate (512 - self.now.count) noMark }
     {
-        array::from_fn(|i| self.mark(i))
+        // Not by `array::from_fn`, which asks at all 512 places: most pages fill few.
+        let mut marks = [BLANK; 512];
+        for i in 0..self.count {
+            marks[i] = mark_at(&self.bytes[FRONT..], ENTRY * i);
+        }
+        marks
     }
 
     // The bookkeeping.

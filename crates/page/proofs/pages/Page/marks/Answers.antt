@@ -1,16 +1,21 @@
--- Each call answers the mark of its entry, or a blank.
-use Rattle.std.proofs.Common.{◌-◌, drop, replicate, length-append, ◌∙◌, arith, rules}
-use Rattle.std.proofs.lemmas.List.{length-replicate}
+-- One mark after another.
+use Rattle.std.proofs.Common.{◌≡◌, ◌-◌, ◌*◌, ◌++◌, drop, replicate, sym, ap, ◌∙◌, arith}
+use Rattle.std.proofs.lemmas.List.{take_rest}
 use Rattle.ratchet.specs.Blank.{blank}
-use Rattle.page.specs.Parts.{marks_in}
-use Rattle.session.proofs.Copies.{copied}
-use Rattle.page.proofs.Parsed.{length-marks, marks_slot}
+use Rattle.page.specs.Parts.{mark_at, marks_in}
+use Rattle.page.proofs.Parsed.{marks-none, marks_set}
 use Rattle.page.proofs.pages.Page.marks.Goals as goal
+
+pub loop-i-init : goal.loop-i-init
+loop-i-init c = sym (ap (λ ms. ms ++ replicate 512 blank) (marks-none (drop 147 c.args.self.now.bytes.now)))
+
+pub loop-i-preserved : goal.loop-i-preserved
+loop-i-preserved c =
+    let bytes = c.args.self.now.bytes.now in
+    let is = c.mark_at.ensures ∙ ap (λ b. mark_at b (40 * c.loop-i.i)) (take_rest bytes 147) in
+    marks_set c.loop-i.marks (drop 147 bytes) c.loop-i.i c.mark_at.result (omega arith) is c.loop-i.invariant
 
 pub returns : goal.returns
 returns c =
-    let page = c.args.self.now in
-    let few = page.few in
-    let entries = drop 147 page.bytes.now in
-    let long = length-append (marks_in page.count entries) (replicate (512 - page.count) blank) ∙ omega (arith, length-marks page.count entries, length-replicate (512 - page.count) blank) in
-    copied _ _ c.from_fn.result _ (λ i y q d l h. (marks_slot entries page.count 512 i y d few (omega arith) (λ used. search rules) (λ left. search rules), search rules)) 512 long c.from_fn.ensures.items
+    let all : c.loop-i.i ≡ c.args.self.now.count = omega arith in
+    c.loop-i.invariant ∙ ap (λ i. marks_in i (drop 147 c.args.self.now.bytes.now) ++ replicate (512 - i) blank) all

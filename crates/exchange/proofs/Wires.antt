@@ -8,11 +8,14 @@ use Rattle.std.proofs.lemmas.Bool.{and_parts, and_from, eqb-true, eq-eqb, leb-tr
 use Rattle.ratchet.specs.declared.types.Message.{Message}
 use Rattle.exchange.specs.Wire.{four_bytes, two_bytes, header_bytes, four_at, two_at, Parts, well_formed, parts_of, read_message, Writable, header_of, Round, Made, WireLaws}
 
--- ### Numbers of four bytes
+-- ### Numbers of two and of four bytes
 
 -- one byte after another, the low one first
 digits : (n a b c : ℕ) → a ≡ n / 256 → b ≡ a / 256 → c ≡ b / 256 → n < 2 ^ 32 → (c % 256) * 16777216 + (b % 256) * 65536 + (a % 256) * 256 + n % 256 ≡ n
 digits n a b c e f g h = omega arith
+
+pub two-value : (n : ℕ) → n < 2 ^ 16 → (n / 256 % 256) * 256 + n % 256 ≡ n
+two-value n h = omega arith
 
 pub four-read : (n : ℕ) → n < 2 ^ 32 → (n / 16777216 % 256) * 16777216 + (n / 65536 % 256) * 65536 + (n / 256 % 256) * 256 + n % 256 ≡ n
 four-read n = digits n (n / 256) (n / 65536) (n / 16777216) refl (sym (div-div-eq-div-mul n 256 256)) (sym (div-div-eq-div-mul n 65536 256))

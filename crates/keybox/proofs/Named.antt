@@ -9,10 +9,10 @@ use Rattle.runs.specs.declared.types.Who.TheVariants.{First, Second}
 use Rattle.keybox.specs.Numbers.{eight, key_of, number_half, number_joint}
 
 -- a side as `as` numbers it
-abbrev number : Who → ℕ
+abbrev pub number : Who → ℕ
 number who = tag_of the_type who
 
-side-is : (who : Who) (d : ℕ) → key_of who d % 2 ≡ number who
+pub side-is : (who : Who) (d : ℕ) → key_of who d % 2 ≡ number who
 side-is First d = omega arith
 side-is Second d = omega arith
 

@@ -45,7 +45,7 @@ module _ (s : Session) (slots : List MessageKey) (m : Incoming) (i : ℕ) (size 
       let few = s.side.few in
       length-map (take s.side.count slots) key_in ∙ (length-take-le s.side.count slots (omega arith) ∙ sym (length-take-le s.side.count s.side.marks (omega arith)))
 
-  in_use : i < s.side.count
+  pub in_use : i < s.side.count
   in_use = let few = s.side.few in omega (arith, f.within, length-take-le s.side.count s.side.marks (omega arith))
 
   text_is : (o : Outside) (d : MessageKey) (text : Option (List ℕ)) → exchange.text_under o (get_or slots i d).0 (parts_of m) ≡ text → exchange.text_recalled o (held_of s slots) (parts_of m) ≡ text

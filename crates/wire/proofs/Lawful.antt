@@ -38,7 +38,7 @@ pub reads_none : (b : List ℕ) → (Well b → ⊥) → reading b ≡ Err Malfo
 reads_none b none = elim (either b) [ whole w e p ↦ absurd (none w) | other x e p ↦ e ]
 
 -- what is read could have been written
-readable : (b : List ℕ) → All (λ x. x < 256) b → Well b → exchange.read_message b ≡ Some (exchange.parts_of b) → Writable (header_of b) × Spells b (header_of b)
+pub readable : (b : List ℕ) → All (λ x. x < 256) b → Well b → exchange.read_message b ≡ Some (exchange.parts_of b) → Writable (header_of b) × Spells b (header_of b)
 readable b fit w e =
     let m = wire_laws.made b (exchange.parts_of b) fit e in
     let size : ◌≡◌ {A = ℕ} (length (drop 47 b) - 16) (exchange.two_at b 45) = omega (arith, length-drop 47 b, w.size) in (

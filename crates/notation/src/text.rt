@@ -74,39 +74,23 @@ pub fn put_text(out: &mut Vec<u8>, text: &[u8]) -> Result<(), Fault>
     Ok(())
 }
 
-// Where the reading of an escape stands after one more byte; by cases, as the definition has it, and apart from what the byte adds.
-fn after_byte(escape: Escape, b: u8) -> Escape
-    ensures { result ≡ after escape b }
+// Where the reading of an escape stands after one more byte, and what that byte adds to the text.
+// By cases, as the definitions have it, and both at once: a byte is then told apart once.
+fn after_byte(escape: Escape, b: u8) -> (Escape, Option<u8>)
+    ensures escape { result.0 ≡ after escape b }
+    ensures text { option_to_list result.1 ≡ emitted escape b }
 {
     match escape {
-        Escape::Plain if b == b'\\' => Escape::Slash,
-        Escape::Plain => Escape::Plain,
-        Escape::Slash if b == b'x' => Escape::Hex,
-        Escape::Hex => hex_value(b).map_or(Escape::Bad, |d| Escape::Digit(d)),
-        Escape::Digit(_) => hex_value(b).map_or(Escape::Bad, |_| Escape::Plain),
-        Escape::Slash | Escape::Bad => Escape::Bad,
+        Escape::Plain if b == b'\\' => (Escape::Slash, None),
+        Escape::Plain => (Escape::Plain, Some(b)),
+        Escape::Slash if b == b'x' => (Escape::Hex, None),
+        Escape::Hex => (hex_value(b).map_or(Escape::Bad, |d| Escape::Digit(d)), None),
+        Escape::Digit(h) => match hex_value(b) {
+            Some(d) => (Escape::Plain, Some(h.wrapping_mul(16).wrapping_add(d))),
+            None => (Escape::Bad, None),
+        },
+        Escape::Slash | Escape::Bad => (Escape::Bad, None),
     }
-}
-
-// What that byte adds to the text.
-fn emitted_byte(escape: Escape, b: u8) -> Option<u8>
-    ensures { option_to_list result ≡ emitted escape b }
-{
-    match escape {
-        Escape::Plain if b != b'\\' => Some(b),
-        Escape::Digit(h) => hex_value(b).map(|d| h.wrapping_mul(16).wrapping_add(d)),
-        _ => None,
-    }
-}
-
-// Appends that.
-fn put_emitted(text: &mut Vec<u8>, escape: Escape, b: u8) -> Result<(), Fault>
-    ensures { OnOk result (text.new.items ≡ text.old.items ++ emitted escape b) }
-{
-    if let Some(x) = emitted_byte(escape, b) {
-        text.push(x)?;
-    }
-    Ok(())
 }
 
 // Reads a text as a script writes it; none where an escape is bad or cut short.
@@ -116,8 +100,11 @@ pub fn unescape(heap: Global, raw: &[u8]) -> Result<Option<Vec<u8>>, Fault>
     let mut escape = Escape::Plain;
     let mut text = Vec::new(heap);
     for b in raw {
-        put_emitted(&mut text, escape, *b)?;
-        escape = after_byte(escape, *b);
+        let (next, added) = after_byte(escape, *b);
+        if let Some(x) = added {
+            text.push(x)?;
+        }
+        escape = next;
     }
     // a text is whole only where it ends outside an escape
     match escape {

@@ -2,6 +2,7 @@
 // A line of one piece, and a mark, is made first, in memory of its own, and then put whole or not at all: where memory is wanted, nothing ends in its midst.
 ghost use Rattle.std.specs.Prelude.{◌≡◌, ◌++◌, OnOk, OnErr};
 ghost use Rattle.ratchet.specs.State.{state_of};
+ghost use Rattle.stage.specs.declared.types.Taking.TheVariants.{Opened};
 ghost use Rattle.script.specs.Output.{marked_line, opened_line, read_line, sending_line, taking_line, text_part, link_text, spaced_mark, marks_text, links_text, side_line};
 
 use notation::faults::Fault;
@@ -63,7 +64,8 @@ pub fn put_taking(
     text: &[u8],
     outcome: Taking,
 ) -> Result<(), Fault>
-    ensures { OnOk result (out.new.items ≡ out.old.items ++ taking_line number text.now outcome) }
+    ensures line { OnOk result (out.new.items ≡ out.old.items ++ taking_line number text.now outcome) }
+    ensures whole { OnErr result ((outcome ≡ Opened → ⊥) → out.new.items ≡ out.old.items) }
 {
     let heap = *out.allocator();
     match outcome {

@@ -118,13 +118,6 @@ pub aside-more : (rs : List Side) (xs ys : List Mark) (k : ℕ) (x : Side) → x
 aside-more rs xs ys k x is h old ms e new m =
     new m ∙ (ap (λ (l : List Mark). has m xs || has m l) e ∙ (ap (λ b. b || has m (state_of x).skipped) (old m) ∙ sym (any_more (λ s. has m s.skipped) rs k x is h)))
 
--- a side whose marks are those of the one before it, which are in the set, adds nothing
-pub adds_again : (xs ms last : List Mark) → ms ≡ last → ((m : Mark) → has m last ≡ true → has m xs ≡ true) → Adds xs ms xs
-adds_again xs ms last same there m = elim (cases_Bool (has m ms)) [
-  | inl t ↦ let e : has m xs ≡ true = there m (ap (has m) (sym same) ∙ t) in e ∙ sym (or_left (has m xs) (has m ms) e)
-  | inr f ↦ sym (ap (λ b. has m xs || b) f ∙ or_false (has m xs))
-]
-
 pub none_there : (xs : List Mark) (m : Mark) → has m [] ≡ true → has m xs ≡ true
 none_there xs m h = let e = has-nil m in cc
 

@@ -23,7 +23,7 @@ pub fn read_at(readings: &[Side], n: u64) -> bool
     readings.iter().any(|side| side.drawn as u64 == n)
 }
 
-// Adds a mark to a set; it is looked for first, since most are there already, and to put one in costs twice as much as to look.
+// Adds a mark to a set; it is looked for first, since most are there already, and to put one in that is there costs twice as much as to look.
 fn add(set: &mut BTreeSet<Mark>, mark: Mark) -> Result<(), Fault>
     ensures { OnOk result (Adds set.old.keys (mark ∷ []) set.new.keys) }
 {
@@ -44,14 +44,14 @@ fn add_all(set: &mut BTreeSet<Mark>, marks: &[Mark]) -> Result<(), Fault>
     Ok(())
 }
 
-// Are some marks the same as others, in the same order.
+// Are some marks the same as others, in the same order. A function of its own, since its clause is what the proof of `add_new` goes by.
 fn are_same(marks: &[Mark], others: &[Mark]) -> bool
     ensures { Decides result (marks.now ≡ others.now) }
 {
     marks == others
 }
 
-// Adds some marks to a set that holds those of the last two sides; mostly they are those of one of these again, and nothing is added.
+// Adds the marks of a reading to a set that holds those of the last two readings; mostly they are those of one of these again, and nothing is added.
 fn add_new(
     set: &mut BTreeSet<Mark>,
     marks: &[Mark],
@@ -72,6 +72,7 @@ fn add_new(
 }
 
 // The messages whose keys some side that was read had put aside, and so held itself.
+// The marks of two readings are kept to be compared with, since the two sides may be read in turns.
 pub fn put_aside(heap: Global, readings: &[Side]) -> Result<BTreeSet<Mark>, Fault>
     ensures aside { IfOk result (λ set. Aside (map state_of readings.now) set.keys) }
     ensures held { IfOk result (λ set. Held (map state_of readings.now) set.keys) }

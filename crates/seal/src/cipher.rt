@@ -19,6 +19,7 @@ pub(crate) fn counts(counter: u32, size: usize) -> bool
 }
 
 // The stream over a text whose counters fit. Key, nonce and counter are apart, as the standard's function takes them.
+// The lemma on the empty text is named here, so that a wrong test for emptiness is refused at what `work_in` asks for.
 #[tactic(auto, using(crate::proofs::Streams::stream_nothing))]
 pub(crate) fn apply(key: &MessageKey, nonce: &Nonce, counter: u32, text: &mut [u8])
     requires { Counts counter (length text.old) }

@@ -4,7 +4,7 @@ ghost use Rattle.chain.specs.Answers.{Linked, Advanced, Skipped, Walked};
 
 use crate::keys::{ChainKey, JointSecret, RootKey};
 use digest::{hkdf, hmac, hmac_pair};
-use octets::{part_at, wipe, work_in};
+use octets::{part_at, wipe, work_into_first};
 use seal::MessageKey;
 
 // What a chain's value is digested with for its value at the next place.
@@ -19,7 +19,7 @@ pub fn link(root: &RootKey, joint: &JointSecret) -> (RootKey, ChainKey)
     let _ = hkdf(&root.0, &joint.0, &[], &mut both);
     let mut first: [u8; 32] = part_at(&both, 0);
     let last: [u8; 32] = part_at(&both, 32);
-    work_in(wipe(&mut both, 0, last[0] as usize), &mut first);
+    work_into_first(wipe(&mut both, 0, last[0] as usize), &mut first);
     (RootKey(first), ChainKey(last))
 }
 

@@ -5,7 +5,7 @@ ghost use Rattle.digest.specs.Hmac.{hmac_sha_256};
 ghost use Rattle.digest.specs.Keyed.{Macs};
 
 use crate::mac::{Mac, hmac};
-use octets::{put, wipe, work_in};
+use octets::{put, wipe, work_into_first};
 
 const MOST: usize = 255 * 32;
 
@@ -43,7 +43,7 @@ fn expand_key(key: &[u8], info: &[u8], out: &mut [u8])
         put(out, 32 * i, &block[0..size]);
     }
     start.wipe();
-    work_in(wipe(&mut block, 0, len), out);
+    work_into_first(wipe(&mut block, 0, len), out);
 }
 
 // Fills out with the key material for a salt, an input and an info; more than 255 blocks are refused.
@@ -60,6 +60,6 @@ pub fn hkdf(salt: &[u8], input: &[u8], info: &[u8], out: &mut [u8]) -> Result<()
     }
     let mut key = hmac(salt, input);
     expand_key(&key, info, out);
-    work_in(wipe(&mut key, 0, out.len()), out);
+    work_into_first(wipe(&mut key, 0, out.len()), out);
     Ok(())
 }

@@ -20,11 +20,21 @@ pub fn wipe<T: Copy>(items: &mut [T], blank: T, place: usize) -> T
 
 // Works a zero that was read back into a result, which stays as it is.
 // The result has a byte for it: what is worked into nothing is read by nobody, and then nothing is overwritten.
-pub fn work_in(zero: u8, res: &mut [u8])
+pub fn work_into_first(zero: u8, res: &mut [u8])
     requires { (zero ≡ 0) × (0 < length res.old) }
     ensures { res.new ≡ res.old }
 {
     if let Some(first) = res.first_mut() {
         *first ^= zero;
+    }
+}
+
+// The same for a result that may have no byte: then the zero is read by nobody, and what was overwritten may stay.
+pub fn work_in(zero: u8, res: &mut [u8])
+    requires { zero ≡ 0 }
+    ensures { res.new ≡ res.old }
+{
+    if !res.is_empty() {
+        work_into_first(zero, res);
     }
 }

@@ -5,7 +5,7 @@ ghost use Rattle.seal.specs.Streaming.{Counts, StreamAnswer};
 
 use crate::block::KeyStream;
 use crate::keys::{MessageKey, Nonce};
-use octets::{wipe, work_in};
+use octets::{wipe, work_into_first};
 
 // Says that the counter of a block of the text would pass 32 bits.
 #[derive(Clone, Copy, PartialEq, Eq, Debug)]
@@ -19,7 +19,7 @@ pub(crate) fn counts(counter: u32, size: usize) -> bool
 }
 
 // The stream over a text whose counters fit. Key, nonce and counter are apart, as the standard's function takes them.
-// The lemma on the empty text is named here, so that a wrong test for emptiness is refused at what `work_in` asks for.
+// The lemma on the empty text is named here, so that a wrong test for emptiness is refused at what `work_into_first` asks for.
 #[tactic(auto, using(crate::proofs::Streams::stream_nothing))]
 pub(crate) fn apply(key: &MessageKey, nonce: &Nonce, counter: u32, text: &mut [u8])
     requires { Counts counter (length text.old) }
@@ -39,7 +39,7 @@ pub(crate) fn apply(key: &MessageKey, nonce: &Nonce, counter: u32, text: &mut [u
     }
     // The words' place is a known one, so that they can stay in registers.
     let left = wipe(&mut words, 0, 0) as u8;
-    work_in(stream.wipe(size) | left, text);
+    work_into_first(stream.wipe(size) | left, text);
 }
 
 // Each byte of the text exclusive or the stream's byte at its place. The same call once more undoes it.

@@ -4,7 +4,7 @@ ghost use Rattle.seal.specs.Sealing.{tag_of};
 
 use crate::keys::{MessageKey, Tag};
 use digest::{hmac, hmac_parts};
-use octets::{part_at, same, wipe, work_in};
+use octets::{part_at, same, wipe, work_into_first};
 
 // What the message's key is digested with for the key of the tag.
 const TAG_LABEL: [u8; 1] = [3];
@@ -17,7 +17,7 @@ pub(crate) fn tag(key: &MessageKey, header: &[u8], covered: &[u8]) -> Tag
     let mut digest = hmac_parts(&tag_key, header, covered);
     let mut made = Tag(part_at(&digest, 0));
     let left = wipe(&mut tag_key, 0, covered.len()) | wipe(&mut digest, 0, covered.len());
-    work_in(left, &mut made.0);
+    work_into_first(left, &mut made.0);
     made
 }
 

@@ -16,5 +16,5 @@ pub returns : goal.returns
 returns c =
     let made : c.hkdf.new.out ≡ mix_bytes c.args.root.now.0 c.args.joint.now.0 = never-refused c.hkdf.result _ _ _ c.hkdf.ensures in
     linked c.args.root.now.0 c.args.joint.now.0 _ _
-    (c.work_in.ensures ∙ c.part_at-first.ensures ∙ ap (λ (x : List ℕ). take 32 x) made)
+    (c.work_into_first.ensures ∙ c.part_at-first.ensures ∙ ap (λ (x : List ℕ). take 32 x) made)
     (c.part_at-last.ensures ∙ take_all 32 (drop 32 c.hkdf.new.out) (omega (arith, length-drop 32 c.hkdf.new.out)) ∙ ap (λ (x : List ℕ). drop 32 x) made)

@@ -24,4 +24,4 @@ loop-i-preserved c =
     )
 
 pub returns : goal.returns
-returns c = c.work_in.ensures ∙ put_all c.args.key.now c.args.info.now c.loop-i.out c.loop-i.i (length c.args.out.now) (omega arith) (omega arith) c.loop-i.invariant.0
+returns c = c.work_into_first.ensures ∙ put_all c.args.key.now c.args.info.now c.loop-i.out c.loop-i.i (length c.args.out.now) (omega arith) (omega arith) c.loop-i.invariant.0

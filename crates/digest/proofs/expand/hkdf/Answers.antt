@@ -13,5 +13,5 @@ pub returns : goal.returns
 unfolding hkdf_sha_256 extracted
 returns c = (
   omega arith,
-  c.work_in.ensures ∙ (c.expand_key.ensures ∙ ap (λ (k : List ℕ). expanded k c.args.info.now (length c.args.out.now)) c.hmac-key.ensures),
+  c.work_into_first.ensures ∙ (c.expand_key.ensures ∙ ap (λ (k : List ℕ). expanded k c.args.info.now (length c.args.out.now)) c.hmac-key.ensures),
 )

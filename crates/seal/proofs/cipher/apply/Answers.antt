@@ -13,5 +13,5 @@ loop-i-preserved c =
 
 pub returns : goal.returns
 returns c =
-    c.work_in.ensures
+    c.work_into_first.ensures
     ∙ under-way_all c.args.key.now.0 c.args.nonce.now.0 c.args.counter c.args.text.now c.loop-i.text c.loop-i.stream.state c.loop-i.i (omega arith) c.loop-i.invariant

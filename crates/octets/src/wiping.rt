@@ -29,7 +29,7 @@ pub fn work_into_first(zero: u8, res: &mut [u8])
     }
 }
 
-// The same for a result that may have no byte: then the zero is read by nobody, and what was overwritten may stay.
+// The same for a result that may have no byte: then the zero is read by nobody, and what should be gone may stay.
 pub fn work_in(zero: u8, res: &mut [u8])
     requires { zero ≡ 0 }
     ensures { res.new ≡ res.old }
